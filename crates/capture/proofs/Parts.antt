@@ -1,21 +1,23 @@
 -- A record of its parts.
-use Rattle.std.proofs.Common.{◌≡◌, ◌∙◌, ap, ℕ, ◌≤◌, List, ◌++◌, length, drop, Ok, refl, append_assoc, arith, length-append}
+use Rattle.std.proofs.Common.{◌≡◌, ◌∙◌, ap, ℕ, ◌≤◌, List, ◌++◌, length, drop, refl, append_assoc, arith, length-append}
 use Rattle.std.proofs.lemmas.Bool.{le-ltb}
 use Rattle.std.proofs.Math.Seq.{drop-append_seam, take-append_seam}
 use Rattle.byteorder.specs.Endian.{little_bytes}
 use Rattle.limits.specs.declared.profile.TheConstants.{LEAST_FRAME, MOST_FRAME}
-use Rattle.capture.specs.Layout.{Numbers, captured_in, fraction_in, seconds_in, wire_len_in}
-use Rattle.capture.specs.Reading.{record_in}
+use Rattle.capture.specs.declared.entry.Entry.TheVariants.{Frame}
+use Rattle.capture.specs.declared.header.Order.{Order}
+use Rattle.capture.specs.Entries.{entry_in}
+use Rattle.capture.specs.Layout.{captured_in, fraction_in, numbers_in, seconds_in, wire_len_in}
 use Rattle.capture.specs.Record.{InRange, Record}
 use Rattle.capture.specs.Writing.{record_bytes}
 
 -- bytes that have a record's numbers, and then its frame and others, begin with that record
-pub record_is : (number : Numbers) (k : ℕ) (bytes rest : List ℕ) (r : Record) → InRange r → 16 ≤ length bytes
-    → captured_in number bytes ≡ length r.frame → wire_len_in number bytes ≡ r.wire_len
-    → seconds_in number bytes ≡ r.seconds → fraction_in number bytes ≡ r.fraction → drop 16 bytes ≡ r.frame ++ rest
-    → record_in number k bytes ≡ Ok (r, rest)
-unfolding record_in
-record_is number k bytes rest r fine long captured wire seconds fraction after =
+pub record_is : (order : Order) (bytes rest : List ℕ) (r : Record) → InRange r → 16 ≤ length bytes
+    → captured_in (numbers_in order) bytes ≡ length r.frame → wire_len_in (numbers_in order) bytes ≡ r.wire_len
+    → seconds_in (numbers_in order) bytes ≡ r.seconds → fraction_in (numbers_in order) bytes ≡ r.fraction → drop 16 bytes ≡ r.frame ++ rest
+    → entry_in order bytes ≡ (Frame r, rest)
+unfolding entry_in
+record_is order bytes rest r fine long captured wire seconds fraction after =
     rw (
       captured,
       wire,

@@ -2,6 +2,7 @@
 use Rattle.std.specs.Prelude.{ℕ, ◌==◌, if◌then◌else◌, List, drop, Option, Some, None}
 use Rattle.byteorder.specs.Endian.{big_number, little_number}
 use Rattle.capture.specs.declared.header.Form.{Form}
+use Rattle.capture.specs.declared.header.Format.TheVariants.{Classic}
 use Rattle.capture.specs.declared.header.Order.{Order}
 use Rattle.capture.specs.declared.header.Order.TheVariants.{Big, Little}
 use Rattle.capture.specs.declared.header.TimeUnit.TheVariants.{Micros, Nanos}
@@ -19,10 +20,10 @@ numbers_in Little = little_number
 -- 0xa1b23c4d that of nanoseconds, and either may stand the other way round
 abbrev pub form_of : ℕ → Option Form
 form_of magic =
-    if magic == 2712847316 then Some (record { order = Big; unit = Micros })
-    else if magic == 2712812621 then Some (record { order = Big; unit = Nanos })
-    else if magic == 3569595041 then Some (record { order = Little; unit = Micros })
-    else if magic == 1295823521 then Some (record { order = Little; unit = Nanos })
+    if magic == 2712847316 then Some (record { format = Classic; order = Big; unit = Micros })
+    else if magic == 2712812621 then Some (record { format = Classic; order = Big; unit = Nanos })
+    else if magic == 3569595041 then Some (record { format = Classic; order = Little; unit = Micros })
+    else if magic == 1295823521 then Some (record { format = Classic; order = Little; unit = Nanos })
     else None
 
 -- the header's major and minor version, at bytes 4 and 6

@@ -1,7 +1,13 @@
 pub mod Record
 pub mod CaptureError
 pub mod Layout
+pub mod Entries
+pub mod Pcapng
+pub mod Sources
+pub mod Choosing
+pub mod SoFar
 pub mod Reading
 pub mod Writing
 pub mod Frames
 pub mod Records
+pub mod Telling

@@ -1,14 +1,23 @@
 -- What some bytes say as a capture.
-use Rattle.std.specs.Prelude.{ℕ, suc, zero, ◌+◌, ◌==◌, nat_lt, ◌||◌, ◌&&◌, not, if◌then◌else◌, List, [], ◌∷◌, length, take, drop, Option, Some, None, Result, Ok, Err}
+use Rattle.std.specs.Prelude.{ℕ, ◌==◌, nat_lt, ◌&&◌, not, Bool, false, if◌then◌else◌, List, [], length, drop, Option, Some, None, Result, Ok, Err}
 use Rattle.byteorder.specs.Endian.{big_number}
-use Rattle.limits.specs.declared.profile.TheConstants.{LEAST_FRAME, MOST_FRAME, MOST_SCRIPT_FRAMES}
 use Rattle.refusals.specs.declared.errors.CaptureError.{CaptureError}
-use Rattle.refusals.specs.declared.errors.CaptureError.TheVariants.{NotCapture, LinkType, CutShort, CapturedShort, FrameLength, TooMany}
+use Rattle.refusals.specs.declared.errors.CaptureError.TheVariants.{NotCapture, LinkType}
 use Rattle.capture.specs.declared.header.Form.{Form}
+use Rattle.capture.specs.declared.header.Format.TheVariants.{Blocks}
+use Rattle.capture.specs.declared.header.Order.TheVariants.{Big}
 use Rattle.capture.specs.declared.header.TimeUnit.{TimeUnit}
+use Rattle.capture.specs.declared.header.TimeUnit.TheVariants.{Nanos}
+use Rattle.capture.specs.declared.options.ReadOptions.{ReadOptions}
+use Rattle.capture.specs.declared.options.Skipped.{Skipped}
+use Rattle.capture.specs.declared.piece.Piece.{Piece}
+use Rattle.capture.specs.declared.piece.Piece.TheVariants.{Packet, Section, Described, Other}
 use Rattle.capture.specs.CaptureError.{◌>>=◌}
-use Rattle.capture.specs.Layout.{Numbers, captured_in, form_of, fraction_in, link_type_in, major_in, minor_in, numbers_in, seconds_in, wire_len_in}
-use Rattle.capture.specs.Record.{Record, record_of}
+use Rattle.capture.specs.Choosing.{chosen}
+use Rattle.capture.specs.Layout.{Numbers, form_of, link_type_in, major_in, minor_in, numbers_in}
+use Rattle.capture.specs.Pcapng.{block_in, is_section}
+use Rattle.capture.specs.Record.{Record}
+use Rattle.capture.specs.Sources.{entries_in, source_of}
 
 -- what a capture has: the unit of its fractions of seconds, and its records
 pub record Content : Type 0 where
@@ -27,35 +36,44 @@ abbrev pub header_with : Option Form → List ℕ → Result Form CaptureError
 header_with None bytes = Err NotCapture
 header_with (Some form) bytes = checked_header (numbers_in form.order) form bytes
 
--- the header that bytes begin with
-unfoldable pub header_in : List ℕ → Result Form CaptureError
-header_in bytes = if nat_lt (length bytes) 24 then Err NotCapture else header_with (form_of (big_number 4 bytes)) bytes
+-- the header of classic pcap that bytes begin with
+unfoldable pub classic_header_in : List ℕ → Result Form CaptureError
+classic_header_in bytes = if nat_lt (length bytes) 24 then Err NotCapture else header_with (form_of (big_number 4 bytes)) bytes
 
--- record k, which bytes begin with, and the bytes after it
-unfoldable pub record_in : Numbers → ℕ → List ℕ → Result (Record × List ℕ) CaptureError
-record_in number k bytes =
-    let captured = captured_in number bytes in
-    let rest = drop 16 bytes in
-    if nat_lt (length bytes) 16 || nat_lt (length rest) captured then Err (CutShort k)
-    else if nat_lt captured (wire_len_in number bytes) then Err (CapturedShort k)
-    else if nat_lt captured LEAST_FRAME || nat_lt MOST_FRAME captured then Err (FrameLength k)
-    else Ok (
-      record_of (seconds_in number bytes) (fraction_in number bytes) (wire_len_in number bytes) (take captured rest),
-      drop captured rest,
-    )
+-- a file of pcapng begins with a section header, which tells the order; its times are read as nanoseconds
+abbrev pub is_blocks : List ℕ → Bool
+is_blocks bytes = not (nat_lt (length bytes) 4) && is_section bytes
 
--- The records from record k on, of which there may be so many. Nothing may stand after them.
-unfoldable pub records_in : Numbers → ℕ → ℕ → List ℕ → Result (List Record) CaptureError
-records_in number room k [] = Ok []
-records_in number zero k (b ∷ bytes) = record_in number k (b ∷ bytes) >>= λ first. Err (TooMany k)
-records_in number (suc room) k (b ∷ bytes) = do
-  first ← record_in number k (b ∷ bytes)
-  later ← records_in number room (k + 1) first.1
-  Ok (first.0 ∷ later)
+abbrev pub form_with : Piece → List ℕ → Result (Form × List ℕ) CaptureError
+form_with (Section order) rest = Ok (record { format = Blocks; order = order; unit = Nanos }, rest)
+form_with (Packet entry) rest = Err NotCapture
+form_with (Described interface) rest = Err NotCapture
+form_with Other rest = Err NotCapture
+
+unfoldable pub blocks_header_in : List ℕ → Result (Form × List ℕ) CaptureError
+blocks_header_in bytes = let p = block_in Big [] bytes in form_with p.0 p.1
+
+-- what the first bytes tell, and the bytes where the records or blocks begin
+unfoldable pub header_in : List ℕ → Result (Form × List ℕ) CaptureError
+header_in bytes =
+    if is_blocks bytes then blocks_header_in bytes
+    else do
+      form ← classic_header_in bytes
+      Ok (form, drop 24 bytes)
+
+-- what is read of a capture's bytes with these options, and how many records are left out; or their first fault
+unfoldable pub capture_with : ReadOptions → List ℕ → Result (Content × Skipped) CaptureError
+capture_with options bytes = do
+  header ← header_in bytes
+  found ← chosen options (entries_in (source_of header.0) header.1)
+  Ok (record { unit = header.0.unit; records = found.0 }, found.1)
+
+-- with these options all records are read, and a fault is refused
+abbrev pub all_records : ReadOptions
+all_records = record { skip = false; limit = None }
 
 -- what bytes say as a capture, or their first fault
 unfoldable pub capture_in : List ℕ → Result Content CaptureError
 capture_in bytes = do
-  form ← header_in bytes
-  records ← records_in (numbers_in form.order) MOST_SCRIPT_FRAMES 1 (drop 24 bytes)
-  Ok (record { unit = form.unit; records = records })
+  found ← capture_with all_records bytes
+  Ok found.0

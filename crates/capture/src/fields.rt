@@ -1,21 +1,31 @@
 //! The numbers in a capture's bytes.
 
 ghost use Rattle.std.specs.Prelude.{◌≡◌, ◌+◌, ◌≤◌, drop, length};
+ghost use Rattle.capture.specs.Layout.{numbers_in};
 
-use byteorder::ByteOrder;
+use crate::header::Order;
+use byteorder::{BigEndian, ByteOrder, LittleEndian};
 
 /// The number in the two bytes from this place on.
-pub fn half<O: ByteOrder>(bytes: &[u8], place: usize) -> u16
+pub fn half(order: Order, bytes: &[u8], place: usize) -> u16
     requires { place + 2 ≤ length bytes.now }
-    ensures { result ≡ O.number_of 2 (drop place bytes.now) }
+    ensures { result ≡ numbers_in order 2 (drop place bytes.now) }
 {
-    O::read_u16(bytes.split_at(place).1)
+    let field = bytes.split_at(place).1;
+    match order {
+        Order::Big => BigEndian::read_u16(field),
+        Order::Little => LittleEndian::read_u16(field),
+    }
 }
 
 /// The number in the four bytes from this place on.
-pub fn word<O: ByteOrder>(bytes: &[u8], place: usize) -> u32
+pub fn word(order: Order, bytes: &[u8], place: usize) -> u32
     requires { place + 4 ≤ length bytes.now }
-    ensures { result ≡ O.number_of 4 (drop place bytes.now) }
+    ensures { result ≡ numbers_in order 4 (drop place bytes.now) }
 {
-    O::read_u32(bytes.split_at(place).1)
+    let field = bytes.split_at(place).1;
+    match order {
+        Order::Big => BigEndian::read_u32(field),
+        Order::Little => LittleEndian::read_u32(field),
+    }
 }

@@ -17,9 +17,17 @@ pub enum Order {
     Little,
 }
 
+/// What follows the header: records of classic pcap, or blocks of pcapng.
+#[derive(Clone, Copy)]
+pub enum Format {
+    Classic,
+    Blocks,
+}
+
 /// What a capture's first four bytes tell.
 #[derive(Clone, Copy)]
 pub struct Form {
+    pub format: Format,
     pub order: Order,
     pub unit: TimeUnit,
 }
@@ -35,5 +43,10 @@ pub fn form_of(magic: u32) -> Option<Form>
         0x4d3c_b2a1 => (Order::Little, TimeUnit::Nanos),
         _ => return None,
     };
-    Some(Form { order, unit })
+    let format = Format::Classic;
+    Some(Form {
+        format,
+        order,
+        unit,
+    })
 }

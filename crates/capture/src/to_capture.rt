@@ -5,7 +5,8 @@ ghost use Rattle.capture.specs.Writing.{capture_of};
 ghost use Rattle.refusals.specs.declared.errors.CaptureError.TheVariants.{Memory};
 ghost use Rattle.capture.specs.Records.{records_of_port};
 
-use crate::reading::{HEADER, RECORD_HEADER};
+use crate::entry::RECORD_HEADER;
+use crate::reading::HEADER;
 use crate::record::CaptureRecord;
 use crate::writing::{write_header, write_record};
 use refusals::CaptureError;

@@ -9,7 +9,7 @@ ghost use Rattle.capture.specs.Writing.{capture_of, header_bytes, record_bytes};
 ghost use Rattle.refusals.specs.declared.errors.CaptureError.TheVariants.{Memory};
 ghost use Rattle.capture.specs.declared.header.TimeUnit.TheVariants.{Micros};
 
-use crate::reading::RECORD_HEADER;
+use crate::entry::RECORD_HEADER;
 use crate::record::CaptureRecord;
 use byteorder::{ByteOrder, LittleEndian};
 use refusals::CaptureError;

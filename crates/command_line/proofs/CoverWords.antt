@@ -1,10 +1,11 @@
 -- What clap makes of `schedules --cover` and its options.
 use Rattle.std.proofs.Common.{◌≡◌, refl, arith, true, false, List, [], ◌∷◌, codes, Some, None}
+use Rattle.std.specs.Prelude.{is_some}
 use Rattle.clap.specs.Words.{App, Row, Text, subcommand_of, takes}
 use Rattle.cover_command.specs.declared.request.CoverRequest.{CoverRequest}
 use Rattle.command_line.specs.CommandLine.{IsProgram}
 use Rattle.command_line.specs.OptionWords.{is_head}
-use Rattle.command_line.specs.ScheduleWords.{HasCover, SaysCover, is_said}
+use Rattle.command_line.specs.ScheduleWords.{HasCover, SaysCover, expects_json, expects_registers, is_said}
 use Rattle.command_line.proofs.OptionRows.{both-false}
 use Rattle.command_line.proofs.Options.{Given, HasValue, given_said, given_value, id_of, stands}
 use Rattle.command_line.proofs.Options.Given.{flag, number}
@@ -21,9 +22,12 @@ options request =
     ∷ number (codes "pairs") 4294967295 (codes "1" ∷ []) None
     ∷ flag (codes "off") false
     ∷ number (codes "refused") 100 (codes "0" ∷ []) None
+    ∷ flag (codes "recommended") false
     ∷ flag (codes "cover") true
     ∷ flag (codes "head") (is_head request.completion)
-    ∷ flag (codes "expect") request.expect
+    ∷ flag (codes "expect") (is_some request.expect)
+    ∷ flag (codes "json") (expects_json request.expect)
+    ∷ flag (codes "registers") (expects_registers request.expect)
     ∷ flag (codes "device-only-real") request.device_only
     ∷ []
 
@@ -31,16 +35,16 @@ has_options : (request : CoverRequest) → HasOptions (codes "schedules") shape 
 has_options request = record { command = is_command; among = refl; distinct = refl; valid = λ h. refl }
 
 are_lawful : (request : CoverRequest) → AreLawful (options request)
-are_lawful request = (tt, (tt, (tt, (tt, (tt, (tt, (tt, (tt, (tt, (tt, (tt, tt)))))))))))
+are_lawful request = (tt, (tt, (tt, (tt, (tt, (tt, (tt, (tt, (tt, (tt, (tt, (tt, (tt, (tt, tt))))))))))))))
 
 words_are : (words : List Text) (request : CoverRequest) → SaysCover words request → words ≡ codes "schedules" ∷ all_words (options request)
 words_are words request says = says.words_are
 
 -- each has its value, and stands or doesn't
-abbrev IsRead : List Row → Given → Type 0
+abbrev pub IsRead : List Row → Given → Type 0
 IsRead rows g = HasValue rows g × (is_said (id_of g) rows ≡ stands g)
 
-each_read : HoldsOfEach IsRead
+pub each_read : HoldsOfEach IsRead
 each_read rules before behind g among first last = (given_value rules before behind g among first last, given_said rules before behind g among first last)
 
 -- ---- what clap makes of them
@@ -58,12 +62,18 @@ cover_found app words request program says =
       found.0,
       found.1,
       record {
-        cover = (found.2 7 none (omega arith)).0;
-        head = (found.2 8 none (omega arith)).0;
-        expect = (found.2 9 none (omega arith)).0;
-        device_only = (found.2 10 none (omega arith)).0;
+        cover = (found.2 8 none (omega arith)).0;
+        head = (found.2 9 none (omega arith)).0;
+        expect = record {
+          stands = (found.2 10 none (omega arith)).0;
+          json = (found.2 11 none (omega arith)).0;
+          registers = (found.2 12 none (omega arith)).0;
+          undrawn = says.undrawn;
+        };
+        device_only = (found.2 13 none (omega arith)).0;
         undrawn = both-false _ _ (found.2 0 none (omega arith)).1 (both-false _ _ (found.2 1 none (omega arith)).1
             (both-false _ _ (found.2 2 none (omega arith)).1 (both-false _ _ (found.2 3 none (omega arith)).1
-            (both-false _ _ (found.2 4 none (omega arith)).1 (both-false _ _ (found.2 5 none (omega arith)).1 (found.2 6 none (omega arith)).1)))));
+            (both-false _ _ (found.2 4 none (omega arith)).1 (both-false _ _ (found.2 5 none (omega arith)).1
+            (both-false _ _ (found.2 6 none (omega arith)).1 (found.2 7 none (omega arith)).1))))));
       },
     )

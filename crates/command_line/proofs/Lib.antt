@@ -6,10 +6,12 @@ mod OptionRows
 mod Options
 mod OptionLists
 pub mod ReplayWords
+mod RequestParts
 mod SaidWords
 pub mod ForwardWords
 pub mod ScheduleWords
 pub mod CoverWords
+pub mod RecommendedWords
 pub mod CaptureWords
 pub mod Endings
 pub mod Sayings

@@ -56,6 +56,7 @@ options words plan says =
     ∷ pairs_given words plan says
     ∷ flag (codes "off") (not plan.enabled)
     ∷ flag (codes "head") (is_head plan.completion)
+    ∷ flag (codes "lists") plan.lists
     ∷ flag (codes "json") plan.shown.json
     ∷ flag (codes "registers") plan.shown.registers
     ∷ optional (codes "picture") (codes "each") (picture_said plan.shown.pictures)
@@ -79,16 +80,16 @@ unfolding digits
 is_pairs words plan says = is_said (codes "pairs") 4294967295 1 (codes "1") says.pairs plan.pairs (omega arith) (omega arith) refl says.says_pairs
 
 are_lawful : (words : List Text) (plan : QueuePlan) (says : SaysReplay words plan) → AreLawful (options words plan says)
-are_lawful words plan says = ((is_ring words plan says).lawful, ((is_pairs words plan says).lawful, (tt, (tt, (tt, (tt, (picture_lawful plan.shown.pictures, tt)))))))
+are_lawful words plan says = ((is_ring words plan says).lawful, ((is_pairs words plan says).lawful, (tt, (tt, (tt, (tt, (tt, (picture_lawful plan.shown.pictures, tt))))))))
 
 words_are : (words : List Text) (plan : QueuePlan) (says : SaysReplay words plan) → words ≡ codes "replay" ∷ all_words (options words plan says)
 words_are words plan says =
     let flags : List Text = words_of (flag (codes "off") (not plan.enabled))
-    ++ (words_of (flag (codes "head") (is_head plan.completion))
-    ++ (words_of (flag (codes "json") plan.shown.json) ++ (words_of (flag (codes "registers") plan.shown.registers) ++ picture_words plan.shown.pictures))) in
+    ++ (words_of (flag (codes "head") (is_head plan.completion)) ++ (words_of (flag (codes "lists") plan.lists)
+    ++ (words_of (flag (codes "json") plan.shown.json) ++ (words_of (flag (codes "registers") plan.shown.registers) ++ picture_words plan.shown.pictures)))) in
     let before : List Text → List Text = λ (drawn : List Text). words_of (flag (codes "off") (not plan.enabled))
-    ++ (words_of (flag (codes "head") (is_head plan.completion))
-    ++ (words_of (flag (codes "json") plan.shown.json) ++ (words_of (flag (codes "registers") plan.shown.registers) ++ drawn))) in
+    ++ (words_of (flag (codes "head") (is_head plan.completion)) ++ (words_of (flag (codes "lists") plan.lists)
+    ++ (words_of (flag (codes "json") plan.shown.json) ++ (words_of (flag (codes "registers") plan.shown.registers) ++ drawn)))) in
     says.words_are
     ∙ (ap₂ (λ (a b : List Text). codes "replay" ∷ (a ++ (b ++ flags))) (is_ring words plan says).words_are (is_pairs words plan says).words_are
     ∙ ap (λ (drawn : List Text). codes "replay" ∷ (words_of (ring_given words plan says) ++ (words_of (pairs_given words plan says) ++ before drawn))) (picture_words_are plan.shown.pictures))
@@ -113,9 +114,10 @@ replay_found app words plan program says =
         pairs = record { value = found.2 1 none (omega arith) ∙ pairs.value; fits = pairs.fits };
         off = found.2 2 none (omega arith);
         head = found.2 3 none (omega arith);
-        json = found.2 4 none (omega arith);
-        registers = found.2 5 none (omega arith);
-        picture = found.2 6 none (omega arith) ∙ picture_value_is plan.shown.pictures;
+        lists = found.2 4 none (omega arith);
+        json = found.2 5 none (omega arith);
+        registers = found.2 6 none (omega arith);
+        picture = found.2 7 none (omega arith) ∙ picture_value_is plan.shown.pictures;
         all_lines = says.all_lines;
       },
     )
@@ -129,7 +131,7 @@ pub shown_is : (shown : Shown) (j r : Bool) (p : Pictures) → j ≡ shown.json 
     → ◌≡◌ {A = Shown} (record { json = j; registers = r; pictures = p }) shown
 shown_is shown j r p json_is registers_is pictures_are = rw (json_is, registers_is, pictures_are) refl
 
-pub plan_is : (plan : QueuePlan) (n k : ℕ) (b : Bool) (c : Completion) (s : Shown) → k ≡ plan.pairs → n ≡ plan.ring → b ≡ plan.enabled → c ≡ plan.completion → s ≡ plan.shown
-    → ◌≡◌ {A = QueuePlan} (record { pairs = k; ring = n; enabled = b; completion = c; shown = s }) plan
-plan_is plan n k b c s pairs_are ring_is enabled_is completion_is shown_are =
-    rw (pairs_are, ring_is, enabled_is, completion_is, shown_are) refl
+pub plan_is : (plan : QueuePlan) (n k : ℕ) (b : Bool) (c : Completion) (l : Bool) (s : Shown) → k ≡ plan.pairs → n ≡ plan.ring → b ≡ plan.enabled → c ≡ plan.completion → l ≡ plan.lists
+    → s ≡ plan.shown → ◌≡◌ {A = QueuePlan} (record { pairs = k; ring = n; enabled = b; completion = c; lists = l; shown = s }) plan
+plan_is plan n k b c l s pairs_are ring_is enabled_is completion_is lists_are shown_are =
+    rw (pairs_are, ring_is, enabled_is, completion_is, lists_are, shown_are) refl

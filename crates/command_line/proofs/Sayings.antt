@@ -22,7 +22,8 @@ use Rattle.schedule_command.specs.declared.request.ScheduleRequest.{ScheduleRequ
 use Rattle.command_line.specs.CommandLine.{IsMisuse, IsProgram, SaysForward}
 use Rattle.command_line.specs.FileWords.{FileOptions}
 use Rattle.command_line.specs.Forwarding.{EndsForwarding}
-use Rattle.command_line.specs.Sayings.{EndsSaid, Holds, IsAsked, IsUnshown, Says, Saying, is_shown, name_of}
+use Rattle.command_line.specs.Sayings.{EndsSaid, Holds, IsAsked, IsUnshown, Says, Saying, forward_shows, is_shown, name_of}
+use Rattle.forward_command.specs.Streams.{outlet, streamed_port}
 use Rattle.command_line.specs.Sayings.Saying.{once, decode, replay, forward, from_capture, to_capture, schedules, cover}
 use Rattle.command_line.specs.Sayings.IsUnshown.{is_misuse, asks}
 use Rattle.command_line.specs.declared.command.Asked.{Asked}
@@ -34,7 +35,7 @@ use Rattle.command_line.proofs.Endings.{capture-ends, capture-kept, cover-kept, 
 use Rattle.command_line.proofs.ForwardWords.{forward_found, forward_taken}
 use Rattle.command_line.proofs.OnceWords.{once_found, once_taken}
 use Rattle.command_line.proofs.ReplayWords.{replay_found, replay_taken}
-use Rattle.command_line.proofs.ScheduleWords.{schedules_found, schedules_taken}
+use Rattle.command_line.proofs.RecommendedWords.{lists_found, lists_taken}
 
 -- ---- clap's part
 
@@ -45,7 +46,7 @@ taken app words (replay plan) program says = replay_taken app words plan program
 taken app words (forward config printing files) program says = forward_taken app words config printing files program says
 taken app words (from_capture port queue) program says = from_taken app words port queue program says
 taken app words (to_capture port) program says = to_taken app words port program says
-taken app words (schedules request) program says = schedules_taken app words request program says
+taken app words (schedules request) program says = lists_taken app words request program says
 taken app words (cover request) program says = cover_taken app words request program says
 
 pub found : (app : App) (words : List Text) (saying : Saying) → IsProgram app → Says words saying
@@ -57,7 +58,7 @@ found app words (forward config printing files) program says =
     let all = forward_found app words config printing files program says in (all.0, all.1, (all.2, all.3))
 found app words (from_capture port queue) program says = from_found app words port queue program says
 found app words (to_capture port) program says = to_found app words port program says
-found app words (schedules request) program says = schedules_found app words request program says
+found app words (schedules request) program says = lists_found app words request program says
 found app words (cover request) program says = cover_found app words request program says
 
 -- one case for each command
@@ -85,7 +86,7 @@ pub kept : (saying : Saying) (input old new : Option (List ℕ)) → Keeps old n
 kept (once digits) input old new keeps = once-kept (frame_in digits) old new keeps
 kept (decode form digits) input old new keeps = inr (refl, keeps)
 kept (replay plan) input old new keeps = λ text known. replay-kept plan text old new keeps
-kept (forward config printing files) input old new keeps = forward-kept config printing files.sources input old new keeps
+kept (forward config printing files) input old new keeps = forward-kept config (outlet printing files.wires) files.sources input old new keeps
 kept (from_capture port queue) input old new keeps = λ bytes known. capture-kept (lines_meant port queue bytes) old new keeps
 kept (to_capture port) input old new keeps = λ text known. capture-kept (capture_meant port text) old new keeps
 kept (schedules request) input old new keeps = schedules-kept request old new keeps
@@ -105,12 +106,12 @@ request-ends (cover request′) request input status old new is ends = absurd is
 
 pub forward-said : (words : List Text) (saying : Saying) (given : Config) (shown : Printing) (input : Option (List ℕ)) (status : ℕ) (old new : Option (List ℕ))
     → IsAsked saying (asked.Forward given shown) → Says words saying
-    → ((config : Config) (printing : Printing) (files : FileOptions) → SaysForward words config printing files → EndsForwarding given shown files.sources input status old new)
+    → ((config : Config) (printing : Printing) (files : FileOptions) → SaysForward words config printing files → EndsForwarding given (outlet shown files.wires) files.sources input status old new)
     → EndsSaid saying input status old new
 forward-said words saying given shown input status old new is says ends =
     each (λ s. IsAsked s (asked.Forward given shown) → Says words s → EndsSaid s input status old new) (λ d is says. absurd is) (λ f d is says. absurd is)
     (λ p is says. absurd is)
-    (λ config printing files is says. forward-ends given config shown printing files.sources input status old new is (ends config printing files says))
+    (λ config printing files is says. forward-ends given config shown printing files.wires files.sources input status old new is (ends config printing files says))
     (λ p q is says. absurd is) (λ p is says. absurd is) (λ r is says. absurd is) (λ r is says. absurd is) saying is says
 
 pub capture-said : (saying : Saying) (given : CaptureRequest) (input : Option (List ℕ)) (status : ℕ) (old new : Option (List ℕ)) → IsAsked saying (asked.Capture given)
@@ -135,15 +136,35 @@ cover-said saying given input status old new is ends =
 
 -- ---- what is not shown
 
+-- the words ask to forward, with no progress and no capture on standard output
+pub record IsUnseen (words : List Text) (shown : Printing) : Type 0 where
+  pub config : Config
+  pub printing : Printing
+  pub files : FileOptions
+  pub says : SaysForward words config printing files
+  pub no_progress : shown.progress ≡ false
+  pub no_stream : streamed_port files.wires ≡ None
+
+shows-nothing : (progress : Bool) (stream : Option ℕ) → forward_shows progress stream ≡ false → (progress ≡ false) × (stream ≡ None)
+shows-nothing true stream e = let bad : ⊥ = cc e in absurd bad
+shows-nothing false (Some port) e = let bad : ⊥ = cc e in absurd bad
+shows-nothing false None e = (refl, refl)
+
+unseen : (words : List Text) (config : Config) (printing shown : Printing) (files : FileOptions) → SaysForward words config printing files → shown ≡ printing
+    → forward_shows printing.progress (streamed_port files.wires) ≡ false → IsUnseen words shown
+unseen words config printing shown files says same dark =
+    let no = shows-nothing printing.progress (streamed_port files.wires) dark in
+    record { config = config; printing = printing; files = files; says = says; no_progress = ap (λ (p : Printing). p.progress) same ∙ no.0; no_stream = no.1 }
+
 -- the words say what was asked for, if they are a command line of the program; so a forwarding that is asked for isn't shown, and no
 -- lists that cover what a queue can do are asked for
 pub unshown-forward : (words : List Text) (a : Asked) (given : Config) (shown : Printing) → a ≡ asked.Forward given shown
-    → ((saying : Saying) → Says words saying → IsAsked saying a) → (IsMisuse words → ⊥) → IsUnshown words → shown.progress ≡ false
+    → ((saying : Saying) → Says words saying → IsAsked saying a) → (IsMisuse words → ⊥) → IsUnshown words → IsUnseen words shown
 unshown-forward words a given shown is said misuse (is_misuse wrong) = absurd (misuse wrong)
 unshown-forward words a given shown is said misuse (asks saying says dark) =
-    each (λ s. IsAsked s (asked.Forward given shown) → is_shown s ≡ false → shown.progress ≡ false) (λ d is dark. absurd is) (λ f d is dark. absurd is)
-    (λ p is dark. absurd is) (λ config printing files is dark. ap (λ (p : Printing). p.progress) is.1 ∙ dark) (λ p q is dark. absurd is) (λ p is dark. absurd is)
-    (λ r is dark. absurd is) (λ r is dark. absurd is) saying (subst (IsAsked saying) is (said saying says)) dark
+    each (λ s. Says words s → IsAsked s (asked.Forward given shown) → is_shown s ≡ false → IsUnseen words shown) (λ d says is dark. absurd is) (λ f d says is dark. absurd is)
+    (λ p says is dark. absurd is) (λ config printing files says is dark. unseen words config printing shown files says is.1 dark) (λ p q says is dark. absurd is)
+    (λ p says is dark. absurd is) (λ r says is dark. absurd is) (λ r says is dark. absurd is) saying says (subst (IsAsked saying) is (said saying says)) dark
 
 pub unshown-cover : (words : List Text) (a : Asked) (given : CoverRequest) → a ≡ asked.Cover given
     → ((saying : Saying) → Says words saying → IsAsked saying a) → (IsMisuse words → ⊥) → IsUnshown words → ⊥

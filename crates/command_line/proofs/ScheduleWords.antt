@@ -1,6 +1,6 @@
 -- What clap makes of `schedules` and its options.
 use Rattle.std.proofs.Common.{◌≡◌, ◌∙◌, ap, ap₂, refl, arith, true, false, List, [], ◌∷◌, ◌++◌, codes, slice_index_or, Some}
-use Rattle.std.specs.Prelude.{decimal, not}
+use Rattle.std.specs.Prelude.{decimal, is_some, not}
 use Rattle.std.specs.Fmt.{digits}
 use Rattle.clap.specs.Simple.{Shape, new_shape}
 use Rattle.clap.specs.Words.{App, Row, Text, built, subcommand_of, takes}
@@ -8,7 +8,7 @@ use Rattle.clap.proofs.OnLiterals.{clap_on_literals}
 use Rattle.schedule_command.specs.declared.request.ScheduleRequest.{ScheduleRequest}
 use Rattle.command_line.specs.CommandLine.{Choices, IsProgram, program_app}
 use Rattle.command_line.specs.OptionWords.{is_head}
-use Rattle.command_line.specs.ScheduleWords.{HasSchedules, SaysSchedules}
+use Rattle.command_line.specs.ScheduleWords.{HasSchedules, SaysSchedules, expects_json, expects_registers, last_words}
 use Rattle.command_line.proofs.CommandLine.{IsNumber, is_number}
 use Rattle.command_line.proofs.Options.{Given, words_of}
 use Rattle.command_line.proofs.Options.Given.{flag, number}
@@ -23,6 +23,7 @@ shape = let none : Choices = record { ref_ptr = (0, 0); now = [] } in slice_inde
 abbrev options : (words : List Text) (request : ScheduleRequest) → SaysSchedules words request → List Given
 options words request says =
     flag (codes "cover") false
+    ∷ flag (codes "recommended") false
     ∷ number (codes "seed") 4294967295 [] (Some (decimal request.seed))
     ∷ number (codes "moves") 4294967295 [] (Some (decimal request.plan.moves))
     ∷ number (codes "count") 4294967295 (codes "1" ∷ []) (said_of _ _ _ _ _ says.says_count)
@@ -31,7 +32,9 @@ options words request says =
     ∷ flag (codes "off") (not request.plan.enabled)
     ∷ flag (codes "head") (is_head request.plan.completion)
     ∷ number (codes "refused") 100 (codes "0" ∷ []) (said_of _ _ _ _ _ says.says_refused)
-    ∷ flag (codes "expect") request.expect
+    ∷ flag (codes "expect") (is_some request.expect)
+    ∷ flag (codes "json") (expects_json request.expect)
+    ∷ flag (codes "registers") (expects_registers request.expect)
     ∷ flag (codes "device-only-real") request.plan.device_only
     ∷ []
 
@@ -65,14 +68,14 @@ saying words request says = record {
 are_lawful : (words : List Text) (request : ScheduleRequest) (says : SaysSchedules words request) → AreLawful (options words request says)
 are_lawful words request says =
     let are = saying words request says in
-    (tt, (are.seed, (are.moves, (are.count.lawful, (are.ring.lawful, (are.pairs.lawful, (tt, (tt, (are.refused.lawful, (tt, (tt, tt)))))))))))
+    (tt, (tt, (are.seed, (are.moves, (are.count.lawful, (are.ring.lawful, (are.pairs.lawful, (tt, (tt, (are.refused.lawful, (tt, (tt, (tt, (tt, tt))))))))))))))
 
 words_are : (words : List Text) (request : ScheduleRequest) (says : SaysSchedules words request) → words ≡ codes "schedules" ∷ all_words (options words request says)
 words_are words request says =
     let are = saying words request says in
     let begins : List Text = words_of (flag (codes "off") (not request.plan.enabled)) in
     let head : List Text = words_of (flag (codes "head") (is_head request.plan.completion)) in
-    let last : List Text = words_of (flag (codes "expect") request.expect) ++ words_of (flag (codes "device-only-real") request.plan.device_only) in
+    let last : List Text = last_words request.expect request.plan.device_only in
     let behind = ap (λ (r : List Text). begins ++ (head ++ (r ++ last))) are.refused.words_are in
     says.words_are
     ∙ ap (λ (l : List Text). codes "schedules" ∷ codes "--seed" ∷ decimal request.seed ∷ codes "--moves" ∷ decimal request.plan.moves ∷ l)
@@ -97,15 +100,23 @@ schedules_found app words request program says =
       found.1,
       record {
         cover = found.2 0 none (omega arith);
-        seed = record { value = found.2 1 none (omega arith) ∙ reads_itself request.seed says.seed_fits; fits = says.seed_fits };
-        moves = record { value = found.2 2 none (omega arith) ∙ reads_itself request.plan.moves says.moves_fits; fits = says.moves_fits };
-        count = record { value = found.2 3 none (omega arith) ∙ are.count.value; fits = are.count.fits };
-        ring = record { value = found.2 4 none (omega arith) ∙ are.ring.value; fits = are.ring.fits };
-        pairs = record { value = found.2 5 none (omega arith) ∙ are.pairs.value; fits = are.pairs.fits };
-        off = found.2 6 none (omega arith);
-        head = found.2 7 none (omega arith);
-        refused = record { value = found.2 8 none (omega arith) ∙ are.refused.value; fits = are.refused.fits };
-        expect = found.2 9 none (omega arith);
-        device_only = found.2 10 none (omega arith);
+        recommended = found.2 1 none (omega arith);
+        seed = record { value = found.2 2 none (omega arith) ∙ reads_itself request.seed says.seed_fits; fits = says.seed_fits };
+        moves = record { value = found.2 3 none (omega arith) ∙ reads_itself request.plan.moves says.moves_fits; fits = says.moves_fits };
+        count = record { value = found.2 4 none (omega arith) ∙ are.count.value; fits = are.count.fits };
+        queues = record {
+          ring = record { value = found.2 5 none (omega arith) ∙ are.ring.value; fits = are.ring.fits };
+          pairs = record { value = found.2 6 none (omega arith) ∙ are.pairs.value; fits = are.pairs.fits };
+          off = found.2 7 none (omega arith);
+          head = found.2 8 none (omega arith);
+          device_only = found.2 13 none (omega arith);
+        };
+        refused = record { value = found.2 9 none (omega arith) ∙ are.refused.value; fits = are.refused.fits };
+        expect = record {
+          stands = found.2 10 none (omega arith);
+          json = found.2 11 none (omega arith);
+          registers = found.2 12 none (omega arith);
+          undrawn = says.undrawn;
+        };
       },
     )

@@ -1,4 +1,4 @@
--- How commands are built, each of one that there may be none of, since memory was refused for it.
+-- How commands are built. Each step takes a result that may be an allocation failure.
 use Rattle.std.specs.Prelude.{◌≡◌, false, List, fold, map, Result, IsOkAnd}
 use Rattle.clap.specs.Words.{App, Rule, app_of, with_rule, with_subcommand}
 use Rattle.clap.specs.declared.builder.command.Command.{Command}
@@ -19,12 +19,12 @@ with_entries entries = fold (λ app entry. with_subcommand app (entry_app entry)
 pub record IsJoined (entries : List Entry) (command : Command) : Type 0 where
   pub app_is : app_of command ≡ with_entries entries
 
--- a command is this one, and none of its options is one of its subcommands' too
+-- a command is this one, and has no global option
 pub record IsNew (app : App) (command : Command) : Type 0 where
   pub app_is : app_of command ≡ app
   pub local : (out-Command command).has_globals ≡ false
 
--- one is made of another by a rule more, of no such option
+-- a command is another with one more rule, which is not global
 pub record IsGrown (rule : Rule) (old new : Command) : Type 0 where
   pub app_is : app_of new ≡ with_rule (app_of old) rule
   pub local : (out-Command new).has_globals ≡ (out-Command old).has_globals
@@ -32,7 +32,7 @@ pub record IsGrown (rule : Rule) (old new : Command) : Type 0 where
 abbrev pub Grows : {E : Type 0} → Rule → Result Command E → Command → Type 0
 Grows rule command new = IsOkAnd command (λ old. IsGrown rule old new)
 
--- a program is made of another and of a command that has no such option
+-- a program is another with one more command, which has no global option
 abbrev pub Joins : {E F : Type 0} → Result Command E → Result Command F → Command → Type 0
 Joins program command joined = IsOkAnd program (λ p. IsOkAnd command (λ c.
     (out-Command c).has_globals ≡ false → app_of joined ≡ with_subcommand (app_of p) (app_of c).top))

@@ -5,7 +5,7 @@ use Rattle.clap.specs.declared.builder.value_parser.ValueParser.TheVariants.{Sig
 use Rattle.command_line.specs.OptionWords.{with_rules}
 use Rattle.limits.specs.declared.profile.TheConstants.{MOST_PAIRS, PORTS}
 
--- an argument that is a number up to this one
+-- an argument that is a number up to a given one
 abbrev pub place_rule : Text → ℕ → Rule
 place_rule id most = record (new_rule id) { value_names = 1; required = true; parser = Some (Signed (pos 0) (pos most)) }
 

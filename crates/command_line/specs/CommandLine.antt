@@ -1,4 +1,4 @@
--- The program's command line, as clap reads it.
+-- The program's command line as clap reads it.
 use Rattle.std.specs.Prelude.{◌≡◌, ◌≢◌, true, false, not, ◌&&◌, List, [], ◌∷◌, ◌++◌, codes, fold, map, slice_index, Some, All}
 use Rattle.std.specs.Borrow.{Bor}
 use Rattle.clap.specs.Words.{App, Kinds, Row, Rule, Text, fault_of, first_of, new_app, new_rule, with_subcommand}
@@ -31,7 +31,7 @@ hex_rule = record (new_rule (codes "hex")) { value_names = 1; required = true }
 abbrev pub once_app : App
 once_app = with_rules (codes "once") (hex_rule ∷ [])
 
--- the program before its commands are added: its words begin with a command, which is required
+-- the program without its commands: its words begin with a required command
 abbrev pub bare_app : App
 bare_app = let new = new_app (codes "poll82599") in record new { top = record new.top { has_version = true; no_binary_name = true; subcommand_required = true } }
 
@@ -50,10 +50,10 @@ decode_app rings formats = with_rules (codes "decode") (choice_rule (codes "ring
 -- the command `replay`
 abbrev pub replay_app : App
 replay_app =
-    with_rules (codes "replay") (queue_rules ++ flag_rule (codes "json") ∷ flag_rule (codes "registers") ∷ optional_rule (codes "picture") (codes "each") ∷ [])
+    with_rules (codes "replay") (queue_rules ++ flag_rule (codes "lists") ∷ flag_rule (codes "json") ∷ flag_rule (codes "registers") ∷ optional_rule (codes "picture") (codes "each") ∷ [])
 
--- the command `forward`: its queues and buffers, its workers, what it does where rings are full, how it reports, what it
--- prints, and its files
+-- the command `forward`: its queues and buffers, its workers, its behaviour on full rings, its reports, its output, and
+-- its files
 abbrev pub forward_app : App
 forward_app = with_rules (codes "forward") (number_rule (codes "pairs") (codes "1")
     ∷ number_rule (codes "ring") (codes "512")
@@ -84,7 +84,7 @@ program_app rings formats = fold (λ app command. with_subcommand app command.to
     ∷ schedules_app
     ∷ [])
 
--- the command line is this one. clap keeps a list of choices by its address too, which is any
+-- the command line is this one. clap also keeps the address of a list of choices, which may be any address
 pub record IsProgram (app : App) : Type 0 where
   pub rings : Choices
   pub formats : Choices
@@ -92,7 +92,7 @@ pub record IsProgram (app : App) : Type 0 where
   pub formats_are : map (λ word. word.now) formats.now ≡ codes "read" ∷ codes "back" ∷ []
   pub app_is : app ≡ program_app rings formats
 
--- the words are `once` and its argument, which does not begin with a hyphen, as an option does
+-- the words are `once` and its argument, which does not begin with a hyphen
 pub record SaysOnce (words : List Text) (digits : Text) : Type 0 where
   pub words_are : words ≡ codes "once" ∷ digits ∷ []
   pub no_option : slice_index digits 0 ≢ 45
@@ -103,7 +103,7 @@ pub record SaysDecode (words : List Text) (form : Form) (digits : Text) : Type 0
   pub no_option : slice_index digits 0 ≢ 45
 
 -- the words are `replay` and its options in this order: `--off` stands where the queues begin disabled, `--head` where
--- they report by a head word, `--json` where objects are printed, `--registers` where registers are shown, and `--picture` or
+-- they report by a head word, `--lists` where each list has fresh queues, `--json` where objects are printed, `--registers` where registers are shown, and `--picture` or
 -- `--picture=last` where queues are drawn, which are lines and stand with no objects
 pub record SaysReplay (words : List Text) (plan : QueuePlan) : Type 0 where
   pub ring : List Text
@@ -113,14 +113,15 @@ pub record SaysReplay (words : List Text) (plan : QueuePlan) : Type 0 where
   pub words_are : words ≡ codes "replay" ∷ (ring ++ (pairs
       ++ (flag_words (codes "--off") (not plan.enabled)
       ++ (flag_words (codes "--head") (is_head plan.completion)
+      ++ (flag_words (codes "--lists") plan.lists
       ++ (flag_words (codes "--json") plan.shown.json
-      ++ (flag_words (codes "--registers") plan.shown.registers ++ picture_words plan.shown.pictures))))))
+      ++ (flag_words (codes "--registers") plan.shown.registers ++ picture_words plan.shown.pictures)))))))
   pub all_lines : (plan.shown.json && draws_any plan.shown.pictures) ≡ false
 
--- the words are `forward` and its options in this order: `--drop` stands where frames are dropped, `--no-retry` where
--- packets are, `--head` where the transmit queues report by a head word, `--quiet` where no wire is printed, `--json`
--- where the counts are objects, and `--progress` where it is shown how far it is; then `--capture` for each source, and
--- `--wire-capture` for each wire file
+-- the words are `forward` and its options in this order: `--drop` if frames are dropped, `--no-retry` if packets are,
+-- `--head` if the transmit queues report by a head word, `--quiet` if no wire is printed, `--json` if the counts are
+-- objects, and `--progress` if progress is shown; then `--capture` for each source, and `--wire-capture` for each wire
+-- file
 pub record SaysForward (words : List Text) (config : Config) (printing : Printing) (files : FileOptions) : Type 0 where
   pub pairs : List Text
   pub ring : List Text
@@ -160,6 +161,7 @@ pub record HasReplay (rows : List Row) (plan : QueuePlan) : Type 0 where
   pub pairs : HasNumber rows (codes "pairs") plan.pairs
   pub off : HasFlag rows (codes "off") (not plan.enabled)
   pub head : HasFlag rows (codes "head") (is_head plan.completion)
+  pub lists : HasFlag rows (codes "lists") plan.lists
   pub json : HasFlag rows (codes "json") plan.shown.json
   pub registers : HasFlag rows (codes "registers") plan.shown.registers
   pub picture : first_of (codes "picture") rows ≡ picture_value plan.shown.pictures
@@ -183,12 +185,12 @@ pub record HasPrinting (rows : List Row) (printing : Printing) : Type 0 where
   pub json : HasFlag rows (codes "json") printing.json
   pub progress : HasFlag rows (codes "progress") printing.progress
 
--- what is asked for is `once` of these digits
+-- the request is `once` with these digits
 abbrev pub IsOnce : Request → Text → Type 0
 IsOnce (Once given) digits = given.now ≡ digits
 IsOnce request digits = ⊥
 
--- it is `decode` of these digits in this form
+-- the request is `decode` with these digits in this form
 abbrev pub IsDecode : Request → Form → Text → Type 0
 IsDecode (Decode named given) form digits = (named ≡ form) × (given.now ≡ digits)
 IsDecode request form digits = ⊥
@@ -198,8 +200,8 @@ abbrev pub IsReplayOf : Request → QueuePlan → Type 0
 IsReplayOf (Replay given) plan = given ≡ plan
 IsReplayOf request plan = ⊥
 
--- what holds of what the words ask for, by what it is: a request, to forward, or a request of captures, of lists that are
--- drawn, or of lists that together meet all that a queue can do
+-- a property of what the words ask for, by its kind: a request of `commands`, a forwarding, or a request for captures,
+-- for drawn lists, or for lists that together cover all that a queue can do
 abbrev pub HoldsBy : (Request → Type 0) → (Config → Printing → Type 0) → (CaptureRequest → Type 0) → (ScheduleRequest → Type 0) → (CoverRequest → Type 0) → Asked → Type 0
 HoldsBy P F C S V (asked.Request request) = P request
 HoldsBy P F C S V (asked.Forward config printing) = F config printing
@@ -207,11 +209,11 @@ HoldsBy P F C S V (asked.Capture request) = C request
 HoldsBy P F C S V (asked.Schedules request) = S request
 HoldsBy P F C S V (asked.Cover request) = V request
 
--- it is a request, of which this holds
+-- it is a request for which this holds
 abbrev pub IsRequest : (Request → Type 0) → Asked → Type 0
 IsRequest P = HoldsBy P (λ config printing. ⊥) (λ request. ⊥) (λ request. ⊥) (λ request. ⊥)
 
--- it is to forward under this configuration, and to print so
+-- it is to forward under this configuration with this printing
 abbrev pub IsForward : Asked → Config → Printing → Type 0
 IsForward a config printing = HoldsBy (λ request. ⊥) (λ given shown. (given ≡ config) × (shown ≡ printing)) (λ request. ⊥) (λ request. ⊥) (λ request. ⊥) a
 
@@ -227,21 +229,21 @@ IsSchedules a request = HoldsBy (λ r. ⊥) (λ config printing. ⊥) (λ r. ⊥
 abbrev pub IsCover : Asked → CoverRequest → Type 0
 IsCover a request = HoldsBy (λ r. ⊥) (λ config printing. ⊥) (λ r. ⊥) (λ r. ⊥) (λ given. given ≡ request) a
 
--- a request of captures that is asked for can be done
+-- a request of captures is valid
 abbrev pub CanBeDone : Asked → Type 0
 CanBeDone = HoldsBy (λ r. Unit {0}) (λ config printing. Unit {0}) IsPlaced (λ r. Unit {0}) (λ r. Unit {0})
 
--- a mistake in the words, which is neither a call for help nor want of memory
+-- a mistake in the words, neither a call for help nor missing memory
 pub record IsMistake (kind : ErrorKind) : Type 0 where
   pub no_help : kind ≢ DisplayHelp
   pub no_version : kind ≢ DisplayVersion
   pub no_memory : kind ≢ OutOfMemory
 
--- there is a fault, and it is a mistake
+-- there is an error, and it is a mistake
 abbrev pub AreMistakes : Kinds → Type 0
 AreMistakes [] = ⊥
 AreMistakes (kind ∷ kinds) = All IsMistake (kind ∷ kinds)
 
--- the words are no command line of the program
+-- the words are not a command line of the program
 abbrev pub IsMisuse : List Text → Type 0
 IsMisuse words = (app : App) → IsProgram app → AreMistakes (fault_of app words)

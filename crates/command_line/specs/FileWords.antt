@@ -1,4 +1,4 @@
--- The options of `forward` for files.
+-- The file options of `forward`.
 use Rattle.std.specs.Prelude.{◌≡◌, List, [], ◌∷◌, ◌++◌, All, codes, map, Option, Some, None}
 use Rattle.std.specs.Borrow.{Bor}
 use Rattle.std.specs.List.{AllZip, flat_map}
@@ -7,11 +7,11 @@ use Rattle.clap.specs.declared.builder.action.ArgAction.TheVariants.{Append}
 use Rattle.forward_command.specs.Words.{IsSource, IsWireFile, PortFile, SourceFile, source_word, wire_file_word}
 use Rattle.command_line.specs.declared.files.ForwardFiles.{ForwardFiles}
 
--- an option that may stand any number of times, each time with a word
+-- an option that may be given any number of times, each time with a word
 abbrev pub file_rule : Text → Rule
 file_rule id = record (new_rule id) { long = Some id; value_names = 1; action = Some Append }
 
--- captures whose frames come in, and files for what leaves a port, each in the order of their words
+-- captures whose frames come in, and files for the frames that leave a port, each in the order of their words
 pub record FileOptions : Type 0 where
   pub sources : List SourceFile
   pub wires : List PortFile
@@ -20,7 +20,7 @@ pub record AreFiles (files : FileOptions) : Type 0 where
   pub sources : All IsSource files.sources
   pub wires : All IsWireFile files.wires
 
--- an option stands once for each of these words
+-- the option is given once for each of these words
 abbrev pub file_words : Text → List Text → List Text
 file_words option words = flat_map (λ word. option ∷ word ∷ []) words
 
@@ -29,12 +29,12 @@ abbrev pub words_of_files : FileOptions → List Text
 words_of_files files =
     file_words (codes "--capture") (map source_word files.sources) ++ file_words (codes "--wire-capture") (map wire_file_word files.wires)
 
--- the values of an option that stands for each of these words
+-- the values of an option that is given for each of these words
 abbrev pub file_values : List Text → Option (List Text)
 file_values [] = None
 file_values (word ∷ words) = Some (word ∷ words)
 
--- each of these words tells one of these
+-- each of these words is parsed as one of these
 abbrev pub AreTold : {X : Type 0} → (Bor Text → Option X → Type 0) → List Text → List X → Type 0
 AreTold {X} told words xs = AllZip (λ text x. (word : Bor Text) (found : Option X) → word.now ≡ text → told word found → found ≡ Some x) words xs
 

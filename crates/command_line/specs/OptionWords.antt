@@ -1,4 +1,4 @@
--- A command with its arguments. An option with a number, and one without a value: the argument that clap has for it, and its words.
+-- Commands, options and flags: the clap rule of each, its words, and its values.
 use Rattle.std.specs.Prelude.{◌≡◌, ◌⊎◌, ℕ, ◌^◌, ◌<◌, Bool, true, false, if◌then◌else◌, pos, List, [], ◌∷◌, codes, decimal, fold, Option, Some, None}
 use Rattle.clap.specs.Words.{App, Row, Rule, Text, new_app, new_rule, one_of, with_rule}
 use Rattle.clap.specs.Values.{bool_text}
@@ -17,19 +17,19 @@ with_rules name rules = fold with_rule (new_app name) rules
 abbrev pub named_rule : Text → Rule
 named_rule id = record (new_rule id) { long = Some id }
 
--- an option with a number up to this one, which has these texts where it is left out
+-- an option with a number up to a given one, and its default texts
 abbrev pub bounded_rule : Text → ℕ → List Text → Rule
 bounded_rule id most defaults = record (new_rule id) { long = Some id; value_names = 1; parser = Some (Signed (pos 0) (pos most)); defaults = defaults }
 
--- an option with a number of `u32`, which has this one where it is left out
+-- an option with a number of type `u32`, and its default
 abbrev pub number_rule : Text → Text → Rule
 number_rule id default = bounded_rule id 4294967295 (default ∷ [])
 
--- an option without a value
+-- a flag
 abbrev pub flag_rule : Text → Rule
 flag_rule id = record (new_rule id) { long = Some id; action = Some SetTrue }
 
--- an option whose value may be left out, where it has this one
+-- an option whose value may be omitted, and the value that it then has
 abbrev pub optional_rule : Text → Text → Rule
 optional_rule id value = record (new_rule id) {
   long = Some id;
@@ -42,7 +42,7 @@ optional_rule id value = record (new_rule id) {
 abbrev pub queue_rules : List Rule
 queue_rules = number_rule (codes "ring") (codes "8") ∷ number_rule (codes "pairs") (codes "1") ∷ flag_rule (codes "off") ∷ flag_rule (codes "head") ∷ []
 
--- an option's value is this number, or whether it stands
+-- the value of an option is this number, or the flag has this value
 pub record HasNumber (rows : List Row) (id : Text) (n : ℕ) : Type 0 where
   pub value : one_of id rows ≡ Some (decimal n)
   pub fits : n < 2 ^ 32
@@ -50,14 +50,14 @@ pub record HasNumber (rows : List Row) (id : Text) (n : ℕ) : Type 0 where
 abbrev pub HasFlag : List Row → Text → Bool → Type 0
 HasFlag rows id stands = one_of id rows ≡ Some (bool_text stands)
 
--- an option stands with a number below a bound, or is left out where the number is its default
+-- an option has a number below a bound, or is omitted if the number is its default
 abbrev pub SaysNumberBelow : ℕ → Text → ℕ → List Text → ℕ → Type 0
 SaysNumberBelow bound option default words n = ((words ≡ option ∷ decimal n ∷ []) × (n < bound)) ⊎ ((words ≡ []) × (n ≡ default))
 
 abbrev pub SaysNumber : Text → ℕ → List Text → ℕ → Type 0
 SaysNumber = SaysNumberBelow (2 ^ 32)
 
--- an option without a value stands, or does not
+-- a flag is given or not
 abbrev pub flag_words : Text → Bool → List Text
 flag_words option stands = if stands then option ∷ [] else []
 

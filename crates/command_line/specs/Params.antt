@@ -1,4 +1,4 @@
--- The options and arguments of a command as data, and the rule of each.
+-- The options and arguments of a command as data, and the rule for each.
 use Rattle.clap.specs.Words.{Rule}
 use Rattle.command_line.specs.CaptureWords.{port_rule, queue_rule}
 use Rattle.command_line.specs.CommandLine.{choice_rule, hex_rule}

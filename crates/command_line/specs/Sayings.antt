@@ -1,5 +1,6 @@
--- What a command line says, whichever its command is: its words, the values that clap reads, the request, and how its run ends.
-use Rattle.std.specs.Prelude.{◌≡◌, ℕ, Bool, true, false, List, Option, Some, codes}
+-- The meaning of a command line with any command: its words, the values that clap reads, the request, and how its run
+-- ends.
+use Rattle.std.specs.Prelude.{◌≡◌, ℕ, Bool, true, false, List, Option, Some, None, codes}
 use Rattle.clap.specs.Words.{Row, Text}
 use Rattle.forward_command.specs.Meanings.{capture_meant, lines_meant}
 use Rattle.forward_command.specs.declared.piped.request.CaptureRequest.TheVariants.{FromCapture, ToCapture}
@@ -11,6 +12,7 @@ use Rattle.commands.specs.declared.replay.QueuePlan.{QueuePlan}
 use Rattle.cover_command.specs.Covers.{EndsCover}
 use Rattle.cover_command.specs.declared.request.CoverRequest.{CoverRequest}
 use Rattle.forward_command.specs.declared.printing.Printing.{Printing}
+use Rattle.forward_command.specs.Streams.{outlet, streamed_port}
 use Rattle.forwarder.specs.declared.config.Config.{Config}
 use Rattle.schedule_command.specs.Lists.{EndsSchedules}
 use Rattle.schedule_command.specs.declared.request.ScheduleRequest.{ScheduleRequest}
@@ -19,7 +21,7 @@ use Rattle.command_line.specs.CommandLine.{HasDecode, HasForward, HasOnce, HasPr
 use Rattle.command_line.specs.CommandLine.{SaysDecode, SaysForward, SaysOnce, SaysReplay}
 use Rattle.command_line.specs.FileWords.{FileOptions}
 use Rattle.command_line.specs.Forwarding.{EndsForwarding}
-use Rattle.command_line.specs.ScheduleWords.{HasCover, HasSchedules, SaysCover, SaysSchedules}
+use Rattle.command_line.specs.ScheduleWords.{HasCover, HasLists, SaysCover, SaysLists}
 use Rattle.command_line.specs.declared.command.Asked.{Asked}
 
 pub data Saying : Type 0 where
@@ -32,7 +34,7 @@ pub data Saying : Type 0 where
   schedules : ScheduleRequest → Saying
   cover : CoverRequest → Saying
 
--- the words say it
+-- the words are this command line
 abbrev pub Says : List Text → Saying → Type 0
 Says words (once digits) = SaysOnce words digits
 Says words (decode form digits) = SaysDecode words form digits
@@ -40,7 +42,7 @@ Says words (replay plan) = SaysReplay words plan
 Says words (forward config printing files) = SaysForward words config printing files
 Says words (from_capture port queue) = SaysFromCapture words port queue
 Says words (to_capture port) = SaysToCapture words port
-Says words (schedules request) = SaysSchedules words request
+Says words (schedules request) = SaysLists words request
 Says words (cover request) = SaysCover words request
 
 -- the command's name
@@ -54,7 +56,7 @@ name_of (to_capture port) = codes "to-capture"
 name_of (schedules request) = codes "schedules"
 name_of (cover request) = codes "schedules"
 
--- the values of the command's arguments say it, but for files
+-- the values of the command's arguments are these, apart from files
 abbrev pub Holds : List Row → Saying → Type 0
 Holds rows (once digits) = HasOnce rows digits
 Holds rows (decode form digits) = HasDecode rows form digits
@@ -62,10 +64,10 @@ Holds rows (replay plan) = HasReplay rows plan
 Holds rows (forward config printing files) = HasForward rows config × HasPrinting rows printing
 Holds rows (from_capture port queue) = HasFromCapture rows port queue
 Holds rows (to_capture port) = HasToCapture rows port
-Holds rows (schedules request) = HasSchedules rows request
+Holds rows (schedules request) = HasLists rows request
 Holds rows (cover request) = HasCover rows request
 
--- it is asked for, but for files
+-- the request is this command line's, apart from files
 abbrev pub IsAsked : Saying → Asked → Type 0
 IsAsked (once digits) a = IsRequest (λ r. IsOnce r digits) a
 IsAsked (decode form digits) a = IsRequest (λ r. IsDecode r form digits) a
@@ -76,29 +78,36 @@ IsAsked (to_capture port) a = IsCapture a (ToCapture port)
 IsAsked (schedules request) a = IsSchedules a request
 IsAsked (cover request) a = IsCover a request
 
--- how a run ends that said it, with this input, which may not be known, and with the output as it was and as it is
+-- how a run of it ends, with this input, which may be unknown, and with the old and the new output
 abbrev pub EndsSaid : Saying → Option (List ℕ) → ℕ → Option (List ℕ) → Option (List ℕ) → Type 0
 EndsSaid (once digits) input status old new = Ends (frame_in digits) status old new
 EndsSaid (decode form digits) input status old new = EndsDecode form digits status old new
 EndsSaid (replay plan) input status old new = (text : List ℕ) → input ≡ Some text → EndsReplay plan text status old new
-EndsSaid (forward config printing files) input status old new = EndsForwarding config printing files.sources input status old new
+EndsSaid (forward config printing files) input status old new = EndsForwarding config (outlet printing files.wires) files.sources input status old new
 EndsSaid (from_capture port queue) input status old new = (bytes : List ℕ) → input ≡ Some bytes → EndsBy (lines_meant port queue bytes) status old new
 EndsSaid (to_capture port) input status old new = (text : List ℕ) → input ≡ Some text → EndsBy (capture_meant port text) status old new
 EndsSaid (schedules request) input status old new = EndsSchedules request status old new
 EndsSaid (cover request) input status old new = EndsCover request status old new
 
--- it is shown how far it is: `forward --progress` and `schedules --cover`
+-- besides refusals, a forwarding writes its progress to standard error, and its counts if a capture goes to standard
+-- output
+abbrev pub forward_shows : Bool → Option ℕ → Bool
+forward_shows true stream = true
+forward_shows false (Some port) = true
+forward_shows false None = false
+
+-- so do `forward --progress`, `forward --wire-capture P=-` and `schedules --cover`
 abbrev pub is_shown : Saying → Bool
 is_shown (once digits) = false
 is_shown (decode form digits) = false
 is_shown (replay plan) = false
-is_shown (forward config printing files) = printing.progress
+is_shown (forward config printing files) = forward_shows printing.progress (streamed_port files.wires)
 is_shown (from_capture port queue) = false
 is_shown (to_capture port) = false
 is_shown (schedules request) = false
 is_shown (cover request) = true
 
--- the words ask for nothing of which that is shown: they are no command line of the program, or another one
+-- the words show nothing on standard error: they are no command line of the program, or one that shows nothing
 pub data IsUnshown (words : List Text) : Type 0 where
   is_misuse : IsMisuse words → IsUnshown words
   asks : (saying : Saying) → Says words saying → is_shown saying ≡ false → IsUnshown words

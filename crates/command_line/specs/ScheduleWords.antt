@@ -1,10 +1,13 @@
 -- The words of `schedules`.
-use Rattle.std.specs.Prelude.{◌≡◌, ◌^◌, ◌<◌, ◌||◌, Bool, true, false, not, List, [], ◌∷◌, ◌++◌, codes, decimal, find, option_and_then, Option, Some, None}
+use Rattle.std.specs.Prelude.{◌≡◌, ◌⊎◌, ◌^◌, ◌<◌, ◌||◌, Bool, true, false, not, List, [], ◌∷◌, ◌++◌, codes, decimal, find, is_some, option_and_then, Option, Some, None}
 use Rattle.std.specs.Str.{bytes_eq}
 use Rattle.clap.specs.Words.{App, Row, Rule, Text}
 use Rattle.clap.specs.declared.parser.matches.ValueSource.{ValueSource}
 use Rattle.clap.specs.declared.parser.matches.ValueSource.TheVariants.{CommandLine, DefaultValue}
+use Rattle.commands.specs.declared.replay.Pictures.TheVariants.{Never}
+use Rattle.commands.specs.declared.replay.Shown.{Shown}
 use Rattle.cover_command.specs.declared.request.CoverRequest.{CoverRequest}
+use Rattle.schedules.specs.declared.plan.SchedulePlan.{SchedulePlan}
 use Rattle.schedule_command.specs.declared.request.ScheduleRequest.{ScheduleRequest}
 use Rattle.command_line.specs.OptionWords.{HasFlag, HasNumber, SaysNumber, SaysNumberBelow, bounded_rule, flag_rule, flag_words, is_head, number_rule, queue_rules, with_rules}
 
@@ -21,11 +24,39 @@ schedules_app = with_rules (codes "schedules") (said_rule (codes "seed")
     ∷ said_rule (codes "moves")
     ∷ number_rule (codes "count") (codes "1")
     ∷ queue_rules
-    ++ share_rule (codes "refused") ∷ flag_rule (codes "expect") ∷ flag_rule (codes "device-only-real") ∷ flag_rule (codes "cover") ∷ [])
+    ++ share_rule (codes "refused")
+    ∷ flag_rule (codes "expect")
+    ∷ flag_rule (codes "json")
+    ∷ flag_rule (codes "registers")
+    ∷ flag_rule (codes "device-only-real")
+    ∷ flag_rule (codes "cover")
+    ∷ flag_rule (codes "recommended")
+    ∷ [])
+
+-- whether what is expected is printed as objects, and whether with registers
+abbrev pub expects_json : Option Shown → Bool
+expects_json None = false
+expects_json (Some form) = form.json
+
+abbrev pub expects_registers : Option Shown → Bool
+expects_registers None = false
+expects_registers (Some form) = form.registers
+
+-- no queue is drawn in what is expected
+abbrev pub IsUndrawn : Option Shown → Type 0
+IsUndrawn None = Unit {0}
+IsUndrawn (Some form) = form.pictures ≡ Never
+
+-- the words behind the numbers: `--expect` where each list is followed by what `replay` prints of it, with `--json` where that is
+-- objects and `--registers` where registers are shown, and `--device-only-real` where only moves of silicon are made
+abbrev pub last_words : Option Shown → Bool → List Text
+last_words expect device_only =
+    flag_words (codes "--expect") (is_some expect)
+    ++ (flag_words (codes "--json") (expects_json expect)
+    ++ (flag_words (codes "--registers") (expects_registers expect) ++ flag_words (codes "--device-only-real") device_only))
 
 -- the words are `schedules` and its options in this order: the seed and the moves of a list always, `--off` where the queues
--- begin disabled, `--head` where they report by a head word, `--expect` where each list is followed by what `replay` prints of
--- it, and `--device-only-real` where only moves of silicon are drawn
+-- begin disabled, `--head` where they report by a head word, and the last words
 pub record SaysSchedules (words : List Text) (request : ScheduleRequest) : Type 0 where
   pub count : List Text
   pub ring : List Text
@@ -41,16 +72,39 @@ pub record SaysSchedules (words : List Text) (request : ScheduleRequest) : Type 
       ∷ (count ++ (ring ++ (pairs
       ++ (flag_words (codes "--off") (not request.plan.enabled)
       ++ (flag_words (codes "--head") (is_head request.plan.completion)
-      ++ (refused
-      ++ (flag_words (codes "--expect") request.expect ++ flag_words (codes "--device-only-real") request.plan.device_only)))))))
+      ++ (refused ++ last_words request.expect request.plan.device_only))))))
+  pub undrawn : IsUndrawn request.expect
 
--- the words are `schedules --cover` and its options in this order: `--head` where the transmit queue reports by a head word,
--- `--expect` where each list is followed by what `replay` prints of it, and `--device-only-real` where only moves of silicon
--- are made
+-- the recommended lists, for any queues
+pub record IsRecommended (request : ScheduleRequest) : Type 0 where
+  pub seed : request.seed ≡ 82599
+  pub count : request.count ≡ 4
+  pub moves : request.plan.moves ≡ 2000
+  pub refused : request.plan.refused ≡ 10
+
+-- the words are `schedules --recommended` and its options in the same order
+pub record SaysRecommended (words : List Text) (request : ScheduleRequest) : Type 0 where
+  pub recommended : IsRecommended request
+  pub ring : List Text
+  pub pairs : List Text
+  pub says_ring : SaysNumber (codes "--ring") 8 ring request.plan.ring
+  pub says_pairs : SaysNumber (codes "--pairs") 1 pairs request.plan.pairs
+  pub words_are : words ≡ codes "schedules" ∷ codes "--recommended"
+      ∷ (ring ++ (pairs
+      ++ (flag_words (codes "--off") (not request.plan.enabled)
+      ++ (flag_words (codes "--head") (is_head request.plan.completion) ++ last_words request.expect request.plan.device_only))))
+  pub undrawn : IsUndrawn request.expect
+
+-- either asks for lists that are drawn
+abbrev pub SaysLists : List Text → ScheduleRequest → Type 0
+SaysLists words request = SaysSchedules words request ⊎ SaysRecommended words request
+
+-- the words are `schedules --cover` and its options in this order: `--head` where the transmit queue reports by a head word, and
+-- the last words
 pub record SaysCover (words : List Text) (request : CoverRequest) : Type 0 where
   pub words_are : words ≡ codes "schedules" ∷ codes "--cover"
-      ∷ (flag_words (codes "--head") (is_head request.completion)
-      ++ (flag_words (codes "--expect") request.expect ++ flag_words (codes "--device-only-real") request.device_only))
+      ∷ (flag_words (codes "--head") (is_head request.completion) ++ last_words request.expect request.device_only)
+  pub undrawn : IsUndrawn request.expect
 
 -- an option stands among the words, where its value is not its default
 abbrev pub by_words : Option ValueSource → Bool
@@ -65,25 +119,51 @@ is_said id rows = by_words (option_and_then (λ r. r.source) (find (λ r. bytes_
 abbrev pub draws : List Row → Bool
 draws rows =
     is_said (codes "seed") rows || (is_said (codes "moves") rows || (is_said (codes "count") rows || (is_said (codes "ring") rows
-    || (is_said (codes "pairs") rows || (is_said (codes "off") rows || is_said (codes "refused") rows)))))
+    || (is_said (codes "pairs") rows || (is_said (codes "off") rows || (is_said (codes "refused") rows || is_said (codes "recommended") rows))))))
+
+-- one stands that says how many lists there are, of how many moves, or which
+abbrev pub counts : List Row → Bool
+counts rows =
+    is_said (codes "seed") rows || (is_said (codes "moves") rows || (is_said (codes "count") rows || is_said (codes "refused") rows))
 
 -- the values of the arguments
+pub record HasExpect (rows : List Row) (expect : Option Shown) : Type 0 where
+  pub stands : HasFlag rows (codes "expect") (is_some expect)
+  pub json : HasFlag rows (codes "json") (expects_json expect)
+  pub registers : HasFlag rows (codes "registers") (expects_registers expect)
+  pub undrawn : IsUndrawn expect
+
+pub record HasQueues (rows : List Row) (plan : SchedulePlan) : Type 0 where
+  pub ring : HasNumber rows (codes "ring") plan.ring
+  pub pairs : HasNumber rows (codes "pairs") plan.pairs
+  pub off : HasFlag rows (codes "off") (not plan.enabled)
+  pub head : HasFlag rows (codes "head") (is_head plan.completion)
+  pub device_only : HasFlag rows (codes "device-only-real") plan.device_only
+
 pub record HasSchedules (rows : List Row) (request : ScheduleRequest) : Type 0 where
   pub cover : HasFlag rows (codes "cover") false
+  pub recommended : HasFlag rows (codes "recommended") false
   pub seed : HasNumber rows (codes "seed") request.seed
   pub moves : HasNumber rows (codes "moves") request.plan.moves
   pub count : HasNumber rows (codes "count") request.count
-  pub ring : HasNumber rows (codes "ring") request.plan.ring
-  pub pairs : HasNumber rows (codes "pairs") request.plan.pairs
-  pub off : HasFlag rows (codes "off") (not request.plan.enabled)
-  pub head : HasFlag rows (codes "head") (is_head request.plan.completion)
+  pub queues : HasQueues rows request.plan
   pub refused : HasNumber rows (codes "refused") request.plan.refused
-  pub expect : HasFlag rows (codes "expect") request.expect
-  pub device_only : HasFlag rows (codes "device-only-real") request.plan.device_only
+  pub expect : HasExpect rows request.expect
+
+pub record HasRecommended (rows : List Row) (request : ScheduleRequest) : Type 0 where
+  pub cover : HasFlag rows (codes "cover") false
+  pub recommended : HasFlag rows (codes "recommended") true
+  pub is_recommended : IsRecommended request
+  pub queues : HasQueues rows request.plan
+  pub expect : HasExpect rows request.expect
+  pub uncounted : counts rows ≡ false
+
+abbrev pub HasLists : List Row → ScheduleRequest → Type 0
+HasLists rows request = HasSchedules rows request ⊎ HasRecommended rows request
 
 pub record HasCover (rows : List Row) (request : CoverRequest) : Type 0 where
   pub cover : HasFlag rows (codes "cover") true
   pub head : HasFlag rows (codes "head") (is_head request.completion)
-  pub expect : HasFlag rows (codes "expect") request.expect
+  pub expect : HasExpect rows request.expect
   pub device_only : HasFlag rows (codes "device-only-real") request.device_only
   pub undrawn : draws rows ≡ false

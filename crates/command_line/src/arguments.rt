@@ -1,4 +1,4 @@
-//! What a command takes among its words, as data, and the argument of `clap` for each.
+//! The options and arguments of a command as data, and the `clap` argument for each.
 ghost use Rattle.std.specs.Prelude.{◌≡◌, false, true};
 ghost use Rattle.clap.specs.Words.{new_rule, rule_of};
 ghost use Rattle.command_line.specs.CaptureWords.{port_rule, queue_rule};
@@ -13,35 +13,35 @@ use std::alloc::Global;
 
 /// An option or an argument of a command.
 pub(crate) enum Param<'a> {
-    /// An option with a number, which has this one where it is left out.
+    /// An option with a number, and its default.
     Number {
         id: &'a str,
         default: &'a str,
         help: &'a str,
     },
-    /// An option with a number that has to be said.
+    /// An option with a number and no default.
     Said {
         id: &'a str,
         help: &'a str,
     },
-    /// An option with how many of a hundred, which is none where it is left out.
+    /// An option with a percentage, 0 by default.
     Share {
         id: &'a str,
         help: &'a str,
     },
-    /// An option whose value may be left out, where it has this one.
+    /// An option whose value may be omitted, and the value that it then has.
     Optional {
         id: &'a str,
         name: &'a str,
         value: &'a str,
         help: &'a str,
     },
-    /// An option without a value.
+    /// A flag: an option without a value.
     Flag {
         id: &'a str,
         help: &'a str,
     },
-    /// An option with a file, which may be repeated.
+    /// An option with a file name, which may be repeated.
     File {
         id: &'a str,
         name: &'a str,
@@ -51,25 +51,25 @@ pub(crate) enum Param<'a> {
     Hex {
         help: &'a str,
     },
-    /// An argument that is one of these words.
+    /// An argument with one of these words.
     Choice {
         id: &'a str,
         name: &'a str,
         words: &'a [&'a str],
         help: &'a str,
     },
-    /// An argument that is a port.
+    /// A port, 0 or 1.
     Port {
         help: &'a str,
     },
-    /// An argument that is a queue.
+    /// A queue, 0 to 7.
     Queue {
         help: &'a str,
     },
 }
 
 impl<'a> Param<'a> {
-    /// The argument of `clap` for it.
+    /// Returns the `clap` argument.
     pub(crate) fn arg(&self, alloc: Global) -> Arg<'a>
         ensures rule { rule_of result ≡ rule_for self.now }
         ensures local { result.global ≡ false }
@@ -99,7 +99,7 @@ impl<'a> Param<'a> {
     }
 }
 
-/// An option of this name.
+/// An option with this name.
 fn named<'a>(alloc: Global, id: &'a str, help: &'a str) -> Arg<'a>
     ensures rule { rule_of result ≡ named_rule id.entry.now }
     ensures local { result.global ≡ false }
@@ -107,7 +107,7 @@ fn named<'a>(alloc: Global, id: &'a str, help: &'a str) -> Arg<'a>
     Arg::new(alloc, id).long(id).help(help)
 }
 
-/// An option whose value help calls N.
+/// An option whose value is called N in help.
 fn numeric<'a>(alloc: Global, id: &'a str, help: &'a str) -> Arg<'a>
     ensures rule { rule_of result ≡ record (named_rule id.entry.now) { value_names = 1 } }
     ensures local { result.global ≡ false }
@@ -166,7 +166,7 @@ fn file<'a>(alloc: Global, id: &'a str, name: &'a str, help: &'a str) -> Arg<'a>
         .value_name(name)
 }
 
-/// An argument that has to be there.
+/// A required argument.
 fn required<'a>(alloc: Global, id: &'a str, name: &'a str, help: &'a str) -> Arg<'a>
     ensures rule { rule_of result ≡ record (new_rule id.entry.now) { value_names = 1; required = true } }
     ensures local { result.global ≡ false }

@@ -1,5 +1,5 @@
-//! How commands are built: each step takes the command that was made so far, for which memory may have been refused, and
-//! answers the next. So no step lets go what another made.
+//! Builds commands step by step. Each step takes the result of the previous one, which may be an allocation failure,
+//! and returns the next. No step drops what another has built.
 ghost use Rattle.std.specs.Prelude.{◌≡◌, false, IfOk};
 ghost use Rattle.clap.specs.Words.{rule_of};
 ghost use Rattle.command_line.specs.Building.{Grows, IsNew, Joins, entry_app};
@@ -8,7 +8,7 @@ use crate::arguments::Param;
 use clap::{Arg, Command};
 use std::alloc::{AllocError, Global};
 
-/// A command of the program: what it is called, what help says of it, and what it takes among its words.
+/// A command of the program: its name, its help and its parameters.
 pub(crate) struct Entry<'a> {
     pub(crate) name: &'a str,
     pub(crate) about: &'a str,
@@ -16,7 +16,7 @@ pub(crate) struct Entry<'a> {
     pub(crate) params: &'a [Param<'a>],
 }
 
-/// The command of an entry.
+/// Builds the command of an entry.
 pub(crate) fn made<'a>(alloc: Global, entry: &Entry<'a>) -> Result<Command<'a>, AllocError>
     ensures { IfOk result (IsNew (entry_app entry.now)) }
 {
@@ -31,7 +31,7 @@ pub(crate) fn made<'a>(alloc: Global, entry: &Entry<'a>) -> Result<Command<'a>, 
     command
 }
 
-/// A command with one option or argument more.
+/// Adds an option or argument to a command.
 fn with<'a>(
     command: Result<Command<'a>, AllocError>,
     arg: Arg<'a>,
@@ -42,7 +42,7 @@ fn with<'a>(
     command?.arg(arg)
 }
 
-/// A program with one command more.
+/// Adds a command to a program.
 pub(crate) fn having<'a>(
     program: Result<Command<'a>, AllocError>,
     command: Result<Command<'a>, AllocError>,

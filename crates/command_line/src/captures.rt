@@ -1,4 +1,4 @@
-//! What is asked for in matches of `from-capture` and `to-capture`.
+//! Reads the requests of `from-capture` and `to-capture` from matches.
 ghost use Rattle.std.specs.Prelude.{◌≡◌, ℕ, Some, IfSome};
 ghost use Rattle.clap.specs.Words.{found_of, rows_of};
 ghost use Rattle.forward_command.specs.Requests.{IsPlaced};
@@ -9,7 +9,7 @@ use crate::reading::place_in;
 use clap::ArgMatches;
 use forward_command::piped::CaptureRequest;
 
-/// The request in matches of `from-capture`.
+/// Reads the request from matches of `from-capture`.
 pub(crate) fn from_capture_in<'a>(matches: &ArgMatches<'a>) -> Option<CaptureRequest>
     ensures value { (port queue : ℕ) → HasFromCapture (rows_of (found_of matches.now)) port queue
         → result ≡ Some (FromCapture port queue) }
@@ -20,7 +20,7 @@ pub(crate) fn from_capture_in<'a>(matches: &ArgMatches<'a>) -> Option<CaptureReq
     placed(CaptureRequest::FromCapture { port, queue })
 }
 
-/// The request in matches of `to-capture`.
+/// Reads the request from matches of `to-capture`.
 pub(crate) fn to_capture_in<'a>(matches: &ArgMatches<'a>) -> Option<CaptureRequest>
     ensures value { (port : ℕ) → HasToCapture (rows_of (found_of matches.now)) port → result ≡ Some (ToCapture port) }
     ensures placed { IfSome result IsPlaced }
@@ -29,7 +29,7 @@ pub(crate) fn to_capture_in<'a>(matches: &ArgMatches<'a>) -> Option<CaptureReque
     placed(CaptureRequest::ToCapture { port })
 }
 
-/// The request, if it can be done. `clap` lets no other through.
+/// Returns the request, if its port and queue exist. `clap` accepts no other.
 fn placed(request: CaptureRequest) -> Option<CaptureRequest>
     ensures value { IsPlaced request → result ≡ Some request }
     ensures placed { IfSome result IsPlaced }

@@ -1,4 +1,4 @@
-//! The words of the command line, as `clap` reads them, to a request.
+//! Turns the words of the command line, as `clap` reads them, into a request.
 ghost use Rattle.std.specs.Prelude.{◌≡◌, ◌⊎◌, List, Some, codes, map, IfOk, IfSome, IsErrAnd, IsSomeAnd, MatchResult, option_map};
 ghost use Rattle.std.specs.String.{string_bytes};
 ghost use Rattle.clap.specs.Words.{Row, Text, kind_of, found_of, rows_of, subcommand_rows_of};
@@ -28,35 +28,42 @@ use ring_machine::Completion;
 use schedule_command::ScheduleRequest;
 use std::alloc::Global;
 
-/// What is told where words are missing that `clap` doesn't miss.
-const NOT_SAID: &str = "schedules takes --seed and --moves, or --cover";
+/// The error for missing options that `clap` does not require.
+const NOT_SAID: &str = "schedules needs --seed and --moves, --recommended or --cover";
 
-/// What is told where pictures can't be read, or stand beside objects.
+/// The error for a malformed `--picture`, or for `--picture` together with `--json`.
 const NOT_SHOWN: &str =
-    "--picture stands alone or as --picture=last, and draws lines: it stands without --json";
+    "--picture takes no value, or each or last (--picture=last), and cannot be combined with --json";
 
-/// What is told where words stand beside `--cover` that say how lists are drawn.
+/// The error for options of drawn lists together with `--cover`.
 const NOT_DRAWN: &str =
-    "--cover draws no lists: it stands without --seed, --moves, --count, --ring, --pairs, --off and --refused";
+    "--cover cannot be combined with --seed, --moves, --count, --ring, --pairs, --off, --refused or --recommended";
 
-/// What the words ask for.
+/// The error for options that select drawn lists together with `--recommended`.
+const NOT_CHOSEN: &str =
+    "--recommended cannot be combined with --seed, --moves, --count, --refused or --cover";
+
+/// The error for a form of the expected output without `--expect`.
+const NOT_EXPECTED: &str = "--json and --registers need --expect";
+
+/// The request of a command line.
 #[derive(Clone, Copy)]
 pub enum Asked<'a> {
     /// A request of `commands`.
     Request(Request<'a>),
-    /// To forward the script of standard input, or captures, and to print what came of it. The words say of which files
-    /// ([`files_of`](crate::files_of)).
+    /// Forwards the script of standard input, or captures, and prints the report. [`files_of`](crate::files_of) returns
+    /// the files that the words name.
     Forward { config: Config, printing: Printing },
     /// A request of captures.
     Capture(CaptureRequest),
-    /// A request of lists of moves that are drawn.
+    /// A request for drawn lists of moves.
     Schedules(ScheduleRequest),
-    /// A request of lists of moves that together meet all that a queue can do.
+    /// A request for lists of moves that together cover all that a queue can do.
     Cover(CoverRequest),
 }
 
-/// Reads the words after the program's name. What it answers in place of a request is an error of `clap`, which is
-/// also how help is asked for.
+/// Parses the words after the program's name. Returns an error of `clap` if they are mistaken, if they ask for help or
+/// the version, or if memory is missing.
 pub fn asked_of<'a>(alloc: Global, words: &'a [String]) -> Result<Asked<'a>, Error>
     ensures said { (saying : Saying) → Says (map string_bytes words.entry.now) saying
         → MatchResult result (IsAsked saying) (λ e. kind_of e ≡ OutOfMemory) }
@@ -72,7 +79,7 @@ pub fn asked_of<'a>(alloc: Global, words: &'a [String]) -> Result<Asked<'a>, Err
     }
 }
 
-/// The error of matches that ask for nothing.
+/// Returns the error for matches without a request.
 fn fault<'a>(program: &mut Command<'a>, matches: &ArgMatches<'a>) -> Error {
     let (kind, text) = fault_in(matches);
     match program.error(kind, text) {
@@ -81,12 +88,10 @@ fn fault<'a>(program: &mut Command<'a>, matches: &ArgMatches<'a>) -> Error {
     }
 }
 
-/// What is wrong with matches that ask for nothing.
+/// Returns the kind and the text of that error.
 fn fault_in<'a>(matches: &ArgMatches<'a>) -> (ErrorKind, &'static str) {
     match matches.subcommand() {
-        Some(("schedules", found)) if found.get_flag("cover") => {
-            (ErrorKind::ArgumentConflict, NOT_DRAWN)
-        }
+        Some(("schedules", found)) => schedules_fault_in(found),
         Some(("replay", found)) if found.get_flag("json") => {
             (ErrorKind::ArgumentConflict, NOT_SHOWN)
         }
@@ -95,7 +100,21 @@ fn fault_in<'a>(matches: &ArgMatches<'a>) -> (ErrorKind, &'static str) {
     }
 }
 
-/// What is asked for in matches of the program's command line.
+/// Returns the same for matches of `schedules`.
+fn schedules_fault_in<'a>(found: &ArgMatches<'a>) -> (ErrorKind, &'static str) {
+    let has_form = found.get_flag("json") || found.get_flag("registers");
+    if has_form && !found.get_flag("expect") {
+        (ErrorKind::ArgumentConflict, NOT_EXPECTED)
+    } else if found.get_flag("cover") {
+        (ErrorKind::ArgumentConflict, NOT_DRAWN)
+    } else if found.get_flag("recommended") {
+        (ErrorKind::ArgumentConflict, NOT_CHOSEN)
+    } else {
+        (ErrorKind::MissingRequiredArgument, NOT_SAID)
+    }
+}
+
+/// Reads the request from matches of the program's command line.
 fn asked_in<'a>(matches: &ArgMatches<'a>) -> Option<Asked<'a>>
     ensures said { (rows : List Row) (saying : Saying) → subcommand_rows_of matches.now ≡ Some (name_of saying, rows)
         → Holds rows saying → IsSomeAnd result (IsAsked saying) }
@@ -116,14 +135,14 @@ fn asked_in<'a>(matches: &ArgMatches<'a>) -> Option<Asked<'a>>
     }
 }
 
-/// The command in matches of the program's command line: its name, and the matches of its own words.
+/// Returns the name of the command and the matches of its words.
 fn chosen<'b, 'a>(matches: &'b ArgMatches<'a>) -> Option<(&'a str, &'b ArgMatches<'a>)>
     ensures { option_map (λ p. (p.0.now, rows_of (found_of p.1.now))) result ≡ subcommand_rows_of matches.now }
 {
     matches.subcommand()
 }
 
-/// The request in matches of `once`.
+/// Reads the request from matches of `once`.
 fn once_in<'a>(once: &ArgMatches<'a>) -> Option<Request<'a>>
     ensures { (digits : Text) → HasOnce (rows_of (found_of once.now)) digits
         → IsSomeAnd result (λ r. IsOnce r digits) }
@@ -132,7 +151,7 @@ fn once_in<'a>(once: &ArgMatches<'a>) -> Option<Request<'a>>
     Some(Request::Once { digits })
 }
 
-/// The request in matches of `decode`.
+/// Reads the request from matches of `decode`.
 fn decode_in<'a>(decode: &ArgMatches<'a>) -> Option<Request<'a>>
     ensures { (form : Form) (digits : Text) → HasDecode (rows_of (found_of decode.now)) form digits
         → IsSomeAnd result (λ r. IsDecode r form digits) }
@@ -151,6 +170,7 @@ fn replay_in<'a>(replay: &ArgMatches<'a>) -> Option<Request<'a>>
     let pairs = number_in(replay, "pairs")?;
     let enabled = !flag_in(replay, "off");
     let completion = completion_in(replay);
+    let lists = flag_in(replay, "lists");
     let pictures = pictures_in(replay)?;
     let json = flag_in(replay, "json");
     if json && draws_any(pictures) {
@@ -167,12 +187,13 @@ fn replay_in<'a>(replay: &ArgMatches<'a>) -> Option<Request<'a>>
             ring,
             enabled,
             completion,
+            lists,
             shown,
         },
     })
 }
 
-/// The configuration in matches of `forward`.
+/// Reads the configuration from matches of `forward`.
 fn config_in<'a>(forward: &ArgMatches<'a>) -> Option<Config>
     ensures { (config : ForwardConfig) → HasForward (rows_of (found_of forward.now)) config → result ≡ Some config }
 {
@@ -202,7 +223,7 @@ fn config_in<'a>(forward: &ArgMatches<'a>) -> Option<Config>
     })
 }
 
-/// What is to be printed, in matches of `forward`.
+/// Reads the form of the page from matches of `forward`.
 fn printing_in<'a>(forward: &ArgMatches<'a>) -> Printing
     ensures { (printing : Printed) → HasPrinting (rows_of (found_of forward.now)) printing → result ≡ printing }
 {
@@ -216,7 +237,7 @@ fn printing_in<'a>(forward: &ArgMatches<'a>) -> Printing
     }
 }
 
-/// How transmit queues report, in matches of a command with the flag `head`.
+/// Reads how transmit queues report from matches of a command with the flag `head`.
 pub(crate) fn completion_in<'a>(matches: &ArgMatches<'a>) -> Completion
     ensures { (said : Reports) → HasFlag (rows_of (found_of matches.now)) (codes "head") (is_head said) → result ≡ said }
 {

@@ -5,12 +5,14 @@ ghost use Rattle.cover_command.specs.declared.request.CoverRequest.{CoverRequest
 ghost use Rattle.command_line.specs.ScheduleWords.{HasCover, by_words, draws, is_said};
 
 use crate::command::completion_in;
+use crate::expects::expect_in;
 use crate::reading::flag_in;
 use clap::ArgMatches;
 use clap::parser::ValueSource;
 use cover_command::CoverRequest;
 
-/// The request in matches of `schedules` with `--cover`, if no option stands beside it that says how lists are drawn.
+/// The request in matches of `schedules` with `--cover`, if no option stands beside it that says how lists are drawn, and
+/// a form stands only beside `--expect`.
 pub(crate) fn cover_in<'a>(matches: &ArgMatches<'a>) -> Option<CoverRequest>
     ensures { (request : Covering) → HasCover (rows_of (found_of matches.now)) request → result ≡ Some request }
 {
@@ -18,7 +20,7 @@ pub(crate) fn cover_in<'a>(matches: &ArgMatches<'a>) -> Option<CoverRequest>
         return None;
     }
     let completion = completion_in(matches);
-    let expect = flag_in(matches, "expect");
+    let expect = expect_in(matches)?;
     let device_only = flag_in(matches, "device-only-real");
     Some(CoverRequest {
         completion,
@@ -38,10 +40,11 @@ fn draws<'a>(matches: &ArgMatches<'a>) -> bool
         || is_said(matches, "pairs")
         || is_said(matches, "off")
         || is_said(matches, "refused")
+        || is_said(matches, "recommended")
 }
 
 /// Whether an option stands among the words. One that is left out may have a value, which is its default.
-fn is_said<'a>(matches: &ArgMatches<'a>, id: &str) -> bool
+pub(crate) fn is_said<'a>(matches: &ArgMatches<'a>, id: &str) -> bool
     ensures { result ≡ is_said id.now (rows_of (found_of matches.now)) }
 {
     by_words(matches.value_source(id))

@@ -1,4 +1,4 @@
-//! The files in matches of `forward`.
+//! Reads the files of `forward` from matches.
 ghost use Rattle.std.specs.Prelude.{◌≡◌, List, Some, IfOk, IsSomeAnd, MatchResult, codes, map};
 ghost use Rattle.std.specs.String.{string_bytes};
 ghost use Rattle.clap.specs.Words.{Row, Text, all_of, found_of, kind_of, rows_of, subcommand_rows_of};
@@ -14,19 +14,21 @@ use clap::{ArgMatches, Error};
 use forward_command::captured::{Source, WireFile, source_of, wire_file_of};
 use std::alloc::{AllocError, Global};
 
-/// What is told where a word of the options is none.
+/// The error for an option's word that names no file in the required form.
 const NO_FILE: &str =
-    "a source is PORT:QUEUE=FILE, as in 0:3=x.pcap, and a wire file is PORT=FILE, as in 1=y.pcap";
+    "--capture takes PORT:QUEUE=FILE, for example 0:3=x.pcap; --wire-capture takes PORT=FILE, for example 1=y.pcap";
 
-/// The files that words of `forward` name: captures whose frames come in, and files for what leaves a port.
+/// The files of `forward`: captures whose frames come in, and files for the frames that leave a port.
 #[derive(Drop)]
 pub struct ForwardFiles<'a> {
+    /// The captures of `--capture`, in the order of the words.
     pub sources: Vec<Source<'a>>,
+    /// The files of `--wire-capture`, in the order of the words.
     pub wires: Vec<WireFile<'a>>,
 }
 
-/// Reads the files in the words after the program's name, which ask for `forward`. It answers an error of `clap` where
-/// one of them can't be read as a file.
+/// Parses the files in the words after the program's name, which ask for `forward`. Returns an error of `clap` if one
+/// of them is malformed or memory is missing.
 pub fn files_of<'a>(alloc: Global, words: &'a [String]) -> Result<ForwardFiles<'a>, Error>
     ensures { (config : ForwardConfig) (printing : Printed) (files : FileOptions) → SaysForward (map string_bytes words.entry.now) config printing files
         → MatchResult result (λ held. HoldsFiles held files) (λ e. kind_of e ≡ OutOfMemory) }
@@ -39,7 +41,7 @@ pub fn files_of<'a>(alloc: Global, words: &'a [String]) -> Result<ForwardFiles<'
     }
 }
 
-/// The files in matches of the program's command line, if each can be read.
+/// Parses the files in matches of the program's command line. Returns `None` if one is malformed.
 fn files_in<'a>(
     alloc: Global,
     matches: &ArgMatches<'a>,
@@ -53,7 +55,7 @@ fn files_in<'a>(
     }
 }
 
-/// The files in matches of `forward`, if each can be read.
+/// Parses the files in matches of `forward`. Returns `None` if one is malformed.
 fn files_said<'a>(
     alloc: Global,
     forward: &ArgMatches<'a>,
@@ -70,7 +72,7 @@ fn files_said<'a>(
     Ok(Some(ForwardFiles { sources, wires }))
 }
 
-/// What the words of an option tell, if each tells something.
+/// Parses each value of an option. Returns `None` if one is malformed.
 fn told_in<'a, T: Drop, F: Fn(&'a str) -> Option<T>>(
     alloc: Global,
     matches: &ArgMatches<'a>,

@@ -1,9 +1,11 @@
-//! The command line of the program `poll82599`: its words, and its run. This is the one crate that reaches `clap`.
+//! The command line of the program `poll82599`: it parses the words and runs the command that they name. It depends on
+//! all command crates, and is the only crate that uses `clap`. Its contracts, over `clap`'s definitions, pin which
+//! words are which request; mistaken words are never taken for one.
 //!
-//! `asked_of` reads the words after the program's name to a request of `commands`, to a configuration of
-//! `forward_command`, to a request of its captures, or to one of `schedule_command` or `cover_command`; `files_of` reads
-//! the files of a forwarding. Both are proved over `clap`'s definitions: which words are which request, and that a mistake in
-//! the words is never taken for one. `run` does what was asked for, or tells what `clap` says, and answers the exit status.
+//! [`asked_of`] parses the words after the program's name into a request of `commands`, a configuration of
+//! `forward_command`, a request of its captures, or a request of `schedule_command` or `cover_command`. [`files_of`]
+//! parses the files of a forwarding. [`run`] serves the request, or prints the help or the error of `clap`, and returns
+//! the exit status.
 #![tactic(auto)]
 
 mod arguments;
@@ -12,6 +14,7 @@ mod captures;
 mod command;
 mod covers;
 mod drawings;
+mod expects;
 mod files;
 mod lists;
 mod program;

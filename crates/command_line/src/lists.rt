@@ -1,22 +1,34 @@
 //! What is asked for in matches of `schedules`.
 ghost use Rattle.std.specs.Prelude.{◌≡◌, Some, IfSome, IsSomeAnd};
 ghost use Rattle.clap.specs.Words.{found_of, rows_of};
+ghost use Rattle.schedules.specs.declared.plan.SchedulePlan.{SchedulePlan as Plan};
 ghost use Rattle.schedule_command.specs.declared.request.ScheduleRequest.{ScheduleRequest as Lists};
 ghost use Rattle.cover_command.specs.declared.request.CoverRequest.{CoverRequest as Covering};
 ghost use Rattle.command_line.specs.CommandLine.{CanBeDone, IsCover, IsSchedules};
-ghost use Rattle.command_line.specs.ScheduleWords.{HasCover, HasSchedules};
+ghost use Rattle.command_line.specs.ScheduleWords.{HasCover, HasLists, HasQueues, HasRecommended, HasSchedules, counts};
 
 use crate::command::{Asked, completion_in};
-use crate::covers::cover_in;
+use crate::covers::{cover_in, is_said};
+use crate::expects::expect_in;
 use crate::reading::{flag_in, number_in};
 use clap::ArgMatches;
 use schedule_command::ScheduleRequest;
 use schedules::SchedulePlan;
 
+/// The recommended lists: their seed, how many there are, how many moves each has, and how many of a hundred at most don't
+/// happen.
+const SEED: u32 = 82_599;
+
+const COUNT: u32 = 4;
+
+const MOVES: u32 = 2000;
+
+const REFUSED: u32 = 10;
+
 /// What is asked for in matches of `schedules`: lists that are drawn, or with `--cover` lists that together meet all that a
 /// queue can do.
 pub(crate) fn lists_in<'a>(matches: &ArgMatches<'a>) -> Option<Asked<'a>>
-    ensures schedules { (request : Lists) → HasSchedules (rows_of (found_of matches.now)) request
+    ensures schedules { (request : Lists) → HasLists (rows_of (found_of matches.now)) request
         → IsSomeAnd result (λ a. IsSchedules a request) }
     ensures cover { (request : Covering) → HasCover (rows_of (found_of matches.now)) request
         → IsSomeAnd result (λ a. IsCover a request) }
@@ -25,18 +37,58 @@ pub(crate) fn lists_in<'a>(matches: &ArgMatches<'a>) -> Option<Asked<'a>>
     if flag_in(matches, "cover") {
         Some(Asked::Cover(cover_in(matches)?))
     } else {
-        Some(Asked::Schedules(schedules_in(matches)?))
+        Some(Asked::Schedules(drawn_in(matches)?))
     }
+}
+
+/// The lists that are drawn: the recommended ones, or those of the numbers that are given.
+fn drawn_in<'a>(matches: &ArgMatches<'a>) -> Option<ScheduleRequest>
+    ensures { (request : Lists) → HasLists (rows_of (found_of matches.now)) request → result ≡ Some request }
+{
+    if flag_in(matches, "recommended") {
+        recommended_in(matches)
+    } else {
+        schedules_in(matches)
+    }
+}
+
+/// The recommended lists, if no option stands beside `--recommended` that says how many there are and of what.
+fn recommended_in<'a>(matches: &ArgMatches<'a>) -> Option<ScheduleRequest>
+    ensures { (request : Lists) → HasRecommended (rows_of (found_of matches.now)) request → result ≡ Some request }
+{
+    if counts(matches) {
+        return None;
+    }
+    let plan = plan_in(matches, MOVES, REFUSED)?;
+    let expect = expect_in(matches)?;
+    Some(ScheduleRequest {
+        plan,
+        seed: SEED,
+        count: COUNT,
+        expect,
+    })
+}
+
+/// Whether an option stands that says how many lists there are, of how many moves, or which.
+fn counts<'a>(matches: &ArgMatches<'a>) -> bool
+    ensures { result ≡ counts (rows_of (found_of matches.now)) }
+{
+    is_said(matches, "seed")
+        || is_said(matches, "moves")
+        || is_said(matches, "count")
+        || is_said(matches, "refused")
 }
 
 /// The request in matches of `schedules`, if they have the seed and the moves.
 fn schedules_in<'a>(matches: &ArgMatches<'a>) -> Option<ScheduleRequest>
     ensures { (request : Lists) → HasSchedules (rows_of (found_of matches.now)) request → result ≡ Some request }
 {
-    let plan = plan_in(matches)?;
+    let moves = number_in(matches, "moves")?;
+    let refused = number_in(matches, "refused")?;
+    let plan = plan_in(matches, moves, refused)?;
     let seed = number_in(matches, "seed")?;
     let count = number_in(matches, "count")?;
-    let expect = flag_in(matches, "expect");
+    let expect = expect_in(matches)?;
     Some(ScheduleRequest {
         plan,
         seed,
@@ -45,14 +97,13 @@ fn schedules_in<'a>(matches: &ArgMatches<'a>) -> Option<ScheduleRequest>
     })
 }
 
-/// How each list is drawn, in matches of `schedules`.
-fn plan_in<'a>(matches: &ArgMatches<'a>) -> Option<SchedulePlan>
-    ensures { (request : Lists) → HasSchedules (rows_of (found_of matches.now)) request → result ≡ Some request.plan }
+/// How a list of so many moves is drawn, for the queues in matches of `schedules`.
+fn plan_in<'a>(matches: &ArgMatches<'a>, moves: u32, refused: u32) -> Option<SchedulePlan>
+    ensures { (plan : Plan) → HasQueues (rows_of (found_of matches.now)) plan → moves ≡ plan.moves → refused ≡ plan.refused
+        → result ≡ Some plan }
 {
-    let moves = number_in(matches, "moves")?;
     let ring = number_in(matches, "ring")?;
     let pairs = number_in(matches, "pairs")?;
-    let refused = number_in(matches, "refused")?;
     let enabled = !flag_in(matches, "off");
     let completion = completion_in(matches);
     let device_only = flag_in(matches, "device-only-real");

@@ -1,4 +1,4 @@
-//! What stands for an option or an argument among matches.
+//! Reads the value of an option or an argument from matches.
 ghost use Rattle.std.specs.Prelude.{◌≡◌, ℕ, Bool, Some, IsSomeAnd};
 ghost use Rattle.clap.specs.Words.{Text, first_of, found_of, rows_of};
 ghost use Rattle.command_line.specs.CaptureWords.{HasPlace};
@@ -6,28 +6,28 @@ ghost use Rattle.command_line.specs.OptionWords.{HasFlag, HasNumber};
 
 use clap::ArgMatches;
 
-/// The number of an option.
+/// Returns the number of an option.
 pub(crate) fn number_in<'a>(matches: &ArgMatches<'a>, id: &str) -> Option<u32>
     ensures { (n : ℕ) → HasNumber (rows_of (found_of matches.now)) id.now n → IsSomeAnd result (λ m. m ≡ n) }
 {
     matches.get_one(id)
 }
 
-/// The number of an argument that is a port or a queue.
+/// Returns the number of an argument that is a port or a queue.
 pub(crate) fn place_in<'a>(matches: &ArgMatches<'a>, id: &str) -> Option<u8>
     ensures { (n : ℕ) → HasPlace (rows_of (found_of matches.now)) id.now n → IsSomeAnd result (λ m. m ≡ n) }
 {
     matches.get_one(id)
 }
 
-/// Whether an option without a value stands.
+/// Whether a flag is given.
 pub(crate) fn flag_in<'a>(matches: &ArgMatches<'a>, id: &str) -> bool
     ensures { (stands : Bool) → HasFlag (rows_of (found_of matches.now)) id.now stands → result ≡ stands }
 {
     matches.get_flag(id)
 }
 
-/// The word of an argument.
+/// Returns the word of an argument.
 pub(crate) fn word_in<'a>(matches: &ArgMatches<'a>, id: &str) -> Option<&'a str>
     ensures { (text : Text) → first_of id.now (rows_of (found_of matches.now)) ≡ Some text
         → IsSomeAnd result (λ word. word.now ≡ text) }

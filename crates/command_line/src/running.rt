@@ -1,5 +1,5 @@
-//! The program's run: its words to a request, and the request to an exit status.
-ghost use Rattle.std.specs.Prelude.{◌≡◌, ◌≢◌, ◌⊎◌, [], false, map};
+//! Runs the program: from its words to a request, and from the request to an exit status.
+ghost use Rattle.std.specs.Prelude.{◌≡◌, ◌≢◌, ◌⊎◌, [], None, false, map};
 ghost use Rattle.std.specs.String.{string_bytes};
 ghost use Rattle.std.specs.Io.KnownBytes.{Keeps};
 ghost use Rattle.clap.specs.Words.{kind_of};
@@ -8,6 +8,7 @@ ghost use Rattle.command_line.specs.CommandLine.{IsMistake, IsMisuse, SaysForwar
 ghost use Rattle.command_line.specs.FileWords.{FileOptions};
 ghost use Rattle.command_line.specs.Forwarding.{EndsForwarding};
 ghost use Rattle.forward_command.specs.declared.printing.Printing.{Printing};
+ghost use Rattle.forward_command.specs.Streams.{outlet, streamed_port};
 ghost use Rattle.forwarder.specs.declared.config.Config.{Config};
 ghost use Rattle.command_line.specs.Sayings.{EndsSaid, IsUnshown, Says, Saying};
 
@@ -25,17 +26,20 @@ use std::sync::Wait;
 use std::thread::Threads;
 use std::time::Clock;
 
-/// The command line asks for nothing that the program knows.
+/// The exit status of a command line that is not valid.
 pub const MISUSED: u8 = 2;
 
-/// Runs the program on the words after its name, and answers its exit status.
+/// Runs the program on the words after its name, and returns its exit status.
 ///
 /// Results and help go to `output`, with status 0. A refusal goes to `faults` as one line, `refused` with its number
-/// and its words, with status 1; before it stands the file, and the line or the record of the input, that it is for, if it is
-/// for one. With `forward --capture` the frames of captures are forwarded and `input` is not read; what leaves a port goes to
-/// the files of `--wire-capture` too. What is wrong with the command line goes to `faults`, with status 2. A failed write to `faults` changes no status.
-/// `screen` is a second way to standard error, beside `faults`: with `forward --progress` and with `schedules --cover` it is
-/// shown there how far it is.
+/// and its words, with status 1; the file and the line or the record of the input that it concerns come first, if there
+/// are any. An error of the command line goes to `faults`, with status 2. A failed write to `faults` does not change
+/// the status.
+///
+/// With `forward --capture`, the frames of captures are forwarded and `input` is not read; the file `-` is opened as
+/// `/dev/stdin`. The frames that leave a port also go to the files of `--wire-capture`; if one is standard output, its
+/// capture replaces the page on `output`, and the counts go to `screen`. `screen` is a second handle to standard error,
+/// where `forward --progress` and `schedules --cover` show their progress.
 pub fn run<
     R: Threads + Wait + Clock + Sync + Files,
     I: Read,
@@ -80,7 +84,7 @@ pub fn run<
     }
 }
 
-/// Forwards under this configuration, with the files in the words, and answers the status.
+/// Forwards under this configuration, with the files in the words, and returns the status.
 fn forward<
     R: Threads + Wait + Clock + Sync + Files,
     I: Read,
@@ -101,9 +105,10 @@ fn forward<
     ensures status { (result ≡ DONE) ⊎ (result ≡ REFUSED) ⊎ (result ≡ MISUSED) }
     ensures done { result ≡ DONE → Keeps (E.contents faults.old) (E.contents faults.new) }
     ensures misused { result ≡ MISUSED → Keeps (W.contents output.old) (W.contents output.new) }
-    ensures screen { printing.progress ≡ false → screen.new ≡ screen.old }
+    ensures screen { (said : Config) (shown : Printing) (files : FileOptions) → SaysForward (map string_bytes words.now) said shown files
+        → printing.progress ≡ false → streamed_port files.wires ≡ None → screen.new ≡ screen.old }
     ensures ends { (said : Config) (shown : Printing) (files : FileOptions) → SaysForward (map string_bytes words.now) said shown files
-        → EndsForwarding config.now printing files.sources (I.remaining input.old) result (W.contents output.old) (W.contents output.new) }
+        → EndsForwarding config.now (outlet printing files.wires) files.sources (I.remaining input.old) result (W.contents output.old) (W.contents output.new) }
     ensures unread { (said : Config) (shown : Printing) (files : FileOptions) → SaysForward (map string_bytes words.now) said shown files
         → files.sources ≢ [] → input.new ≡ input.old }
 {
@@ -124,7 +129,7 @@ fn forward<
     }
 }
 
-/// Prints what `clap` says in place of a request, and answers the status.
+/// Prints the help or the error of `clap`, and returns the status.
 fn tell<W: Write, E: Write>(error: &clap::Error, output: &mut W, faults: &mut E) -> u8
     ensures status { (result ≡ DONE) ⊎ (result ≡ REFUSED) ⊎ (result ≡ MISUSED) }
     ensures done { result ≡ DONE → Keeps (E.contents faults.old) (E.contents faults.new) }

@@ -1,5 +1,5 @@
-//! Tests of the program's commands and of its command line, and of what only they use: drawn schedules and the search over
-//! states. They stand above all of these crates, so that each is proved without them.
+//! Tests of the program's commands and of its command line, and of what only they use: drawn schedules and the search
+//! over states. This crate is above all of those crates, so that each of them is proved without its tests.
 #![tactic(auto)]
 
 #[cfg(test)]

@@ -1,5 +1,5 @@
-//! The tests. Most are tables of rows, a run of the program with all that it has to come to, which `told` walks. `runs` runs
-//! it on words and streams, and `streams` has inputs and outputs that fail, and a screen.
+//! The tests. Most are tables whose rows give a run of the program and its expected output; `told` checks them. `runs`
+//! runs the program on words and streams, and `streams` has failing inputs and outputs, and a screen.
 
 mod decode_tests;
 mod failing;

@@ -25,7 +25,7 @@ use Rattle.ring_machine.proofs.shared.Running.{joined}
 use Rattle.text_lines.specs.Parts.{lines_of, says_something}
 use Rattle.commands.specs.declared.replay.QueuePlan.{QueuePlan}
 use Rattle.commands.specs.declared.replay.Shown.{Shown}
-use Rattle.commands.specs.Replay.{after_it, count_line, drawn_at_last, drawn_at_once, drawn_of, last_from, line_in, shown_registers, told_line, world_of, HasPage, IsDrawn, IsFaulty, IsMoveList, IsNoMove, IsPageOf, IsReplay, Reads, Says, Tells, WroteMove}
+use Rattle.commands.specs.Replay.{after_it, count_line, drawn_at_last, drawn_at_once, drawn_of, last_from, line_in, shown_registers, told_line, world_of, HasPage, IsDrawn, IsListPage, IsPrinted, LacksMemory, IsFaulty, IsMoveList, IsNoMove, IsPageOf, IsReplay, Reads, Says, Tells, WroteMove}
 
 -- what reading a line answers, in words of lists
 pub read-line : (line : List ℕ) (result : Result Move MachineError) → ((m : Move) → (result ≡ Ok m) ↔ (IsInRange m × (line ≡ text_of m))) → is_ok result ≡ true → Reads line
@@ -305,15 +305,24 @@ are-queues pairs n nn = (
 opening-reached : (pairs n : ℕ) (b : TxBeginning) → IsReachableWorld pairs n (opening_world pairs n b)
 opening-reached pairs n b = reached-opening can_move after_move (opening_world pairs n) b
 
+page-of : (plan : QueuePlan) (text page : List ℕ) (queues : QueueParts) → QueuesAgree queues (world_of plan)
+    → ((pairs n : ℕ) (w : World) → IsReachableWorld pairs n w → QueuesAgree queues w → IsPageOf plan.shown w text page) → IsPageOf plan.shown (world_of plan) text page
+page-of plan text page queues agrees is_page =
+    is_page plan.pairs plan.ring (world_of plan) (opening-reached plan.pairs plan.ring (record { enabled = plan.enabled; completion = plan.completion })) agrees
+
 -- the page is that of the plan's queues as they are made
-pub has-page : (plan : QueuePlan) (text page : List ℕ) (queues : QueueParts) → ((AreQueues plan.pairs plan.ring → ⊥) → ⊥) → QueuesAgree queues (world_of plan)
+pub has-page : (plan : QueuePlan) (text page : List ℕ) (queues : QueueParts) → plan.lists ≡ false → ((AreQueues plan.pairs plan.ring → ⊥) → ⊥) → QueuesAgree queues (world_of plan)
     → ((pairs n : ℕ) (w : World) → IsReachableWorld pairs n w → QueuesAgree queues w → IsPageOf plan.shown w text page) → HasPage plan text page
-has-page plan text page queues able agrees is_page = let p = is_page plan.pairs plan.ring (world_of plan) (opening-reached plan.pairs plan.ring (record { enabled = plan.enabled; completion = plan.completion })) agrees in record {
+has-page plan text page queues one able agrees is_page = let p = page-of plan text page queues agrees is_page in record {
   moves = p.moves;
   replay = record { says = p.says; queues = are-queues plan.pairs plan.ring able };
-  printed = p.printed;
+  printed = subst (λ (b : Bool). IsPrinted b plan text p.moves page) (sym one) p.printed;
 }
 
 -- the moves were known, and had no memory
 pub is-replay : (plan : QueuePlan) (text : List ℕ) → ((AreQueues plan.pairs plan.ring → ⊥) → ⊥) → IsMoveList text → (moves : List Move) × IsReplay plan text moves
 is-replay plan text able (ms, says) = (ms, record { says = says; queues = are-queues plan.pairs plan.ring able })
+
+pub list-page : (plan : QueuePlan) (text page : List ℕ) (queues : QueueParts) → QueuesAgree queues (world_of plan)
+    → ((pairs n : ℕ) (w : World) → IsReachableWorld pairs n w → QueuesAgree queues w → IsPageOf plan.shown w text page) → IsListPage plan (lines_of text) page
+list-page plan text page queues agrees is_page = let p = page-of plan text page queues agrees is_page in record { moves = p.moves; says = p.says; printed = p.printed }

@@ -1,4 +1,4 @@
--- What `decode` answers.
+-- The results of `decode`.
 use Rattle.std.specs.Prelude.{◌≡◌, ℕ, List, [], ◌∷◌, ◌++◌, codes, Result, Ok, Err}
 use Rattle.refusals.specs.declared.errors.DescError.{DescError}
 use Rattle.descriptor.specs.Layout.{KeepsBytes}
@@ -12,7 +12,7 @@ use Rattle.commands.specs.declared.decode.Form.TheVariants.{RxRead, RxBack, TxRe
 use Rattle.commands.specs.declared.refusal.Refusal.{Refusal}
 use Rattle.commands.specs.declared.refusal.Refusal.TheVariants.{Descriptor}
 
--- the two words that name a form: whose ring it is on, and who wrote it
+-- the two words that name a form: its ring, and its format
 abbrev pub ring_word : Form → List ℕ
 ring_word RxRead = codes "rx"
 ring_word RxBack = codes "rx"
@@ -25,14 +25,14 @@ format_word RxBack = codes "back"
 format_word TxRead = codes "read"
 format_word TxBack = codes "back"
 
--- the datasheet's figure of a form
+-- the datasheet's layout of a form
 abbrev pub figure_of : Form → layout.Form
 figure_of RxRead = rx_read_form
 figure_of RxBack = rx_back_form
 figure_of TxRead = tx_read_form
 figure_of TxBack = tx_back_form
 
--- it is the line of a descriptor, and these are its bytes
+-- the line of the descriptor with these bytes
 abbrev pub IsLineOf : {D : Type 0} → (D → List ℕ) → (D → List ℕ) → List ℕ → List ℕ → Type 0
 IsLineOf {D} bytes_of text_of bytes line = (d : D) × (bytes ≡ bytes_of d) × (line ≡ text_of d ++ 10 ∷ [])
 
@@ -42,12 +42,12 @@ IsLine RxBack = IsLineOf rx_back_bytes rx_back_text
 IsLine TxRead = IsLineOf tx_read_bytes tx_read_text
 IsLine TxBack = IsLineOf tx_back_bytes tx_back_text
 
--- what bytes are in a form: the descriptor of this line, or of the descriptor's refusals the lowest that applies
+-- the result for bytes in a form: the line of the descriptor, or the lowest descriptor refusal that applies
 abbrev pub IsRead : Form → List ℕ → Result (List ℕ) Refusal → Type 0
 IsRead form bytes (Ok line) = IsLine form bytes line
 IsRead form bytes (Err refusal) = (e : DescError) × (refusal ≡ Descriptor e) × IsLowest (KeepsBytes (figure_of form) bytes) e
 
--- what an argument's bytes are in a form; where the argument says none, that is the answer
+-- the result for an argument's bytes in a form; if the argument is refused, its refusal
 abbrev pub IsDecoded : Form → Result (List ℕ) Refusal → Result (List ℕ) Refusal → Type 0
 IsDecoded form (Ok bytes) answer = IsRead form bytes answer
 IsDecoded form (Err refusal) answer = answer ≡ Err refusal

@@ -4,4 +4,5 @@ pub mod Frame
 pub mod Decoding
 pub mod Passing
 pub mod Answers
+pub mod Lists
 pub mod Replay

@@ -1,4 +1,4 @@
--- What the threads at the two ends of a ring begin with and give back, as one frame is passed.
+-- The states of the two threads of a ring before and after one frame is passed.
 use Rattle.std.specs.Prelude.{◌≡◌, ◌<◌, ◌⊎◌, true, false, List, [], ◌∷◌, ◌++◌, length, map}
 use Rattle.atomic_table.specs.Seated.{TableId}
 use Rattle.buffer_pool.specs.Buffer.{Buffer}
@@ -14,12 +14,12 @@ use Rattle.rx_ring.specs.Meeting.{ledger_of}
 use Rattle.controller.specs.Receiving.{Receiving}
 use Rattle.driver.specs.receive.Chains.{going_on, segments_in, segments_of}
 
--- a frame of lawful length, for which the ring can have enough descriptors free
+-- a frame of lawful length, with fewer pieces than the ring has descriptors
 pub record Fits (ring : TableId) (frame : Bytes) : Type 0 where
   pub lawful : HasFrameLength frame
   pub few : piece_count BUFFER_BYTES (length frame) < ring.slots
 
--- two ends of the ring have done nothing yet, and the frame fits
+-- the two ends of the ring are new, and the frame fits
 pub record CanPass (ring : TableId) (driver : DriverSide) (controller : ControllerSide) (frame : Bytes) : Type 0 where
   pub size : IsRingLength ring.slots
   pub driver_own : driver.table ≡ ring
@@ -28,7 +28,7 @@ pub record CanPass (ring : TableId) (driver : DriverSide) (controller : Controll
   pub fresh_controller : IsFreshController controller
   pub fits : Fits ring frame
 
--- the driver took packets at the ring, of which this is the last, and perhaps the beginning of a frame behind it
+-- the driver took packets at the ring, this one last, and perhaps the beginning of another frame
 pub record TookPacket (ring : TableId) (driver : DriverSide) (packet : List Buffer) : Type 0 where
   pub own : driver.table ≡ ring
   pub before : List (List Buffer)
@@ -48,14 +48,15 @@ pub record StoredOnly (ring : TableId) (frame : Bytes) (controller : ControllerS
   pub whole : is_between controller ≡ true
   pub only : (stored controller ≡ []) ⊎ HasStored ring frame controller
 
--- the controller stored nothing yet at the ring; it fills whole buffers, and drops nothing
+-- the controller has stored nothing at the ring; it fills whole buffers, and drops nothing
 pub record Offers (ring : TableId) (controller : Receiving) : Type 0 where
   pub own : controller.end.table ≡ ring
   pub none_stored : stored controller.end ≡ []
   pub fills : controller.bsize ≡ BUFFER_BYTES
   pub holds : controller.drop_en ≡ false
 
--- The frame went through one ring: the controller stored its pieces and nothing else, the driver took them all and nothing else, and they lie in the packet that the driver took
+-- The frame went through one ring: the controller stored its pieces and nothing else, the driver took all of them and
+-- nothing else, and they are the segments of the packet
 pub record HasPassed (frame : Bytes) (driver : DriverSide) (controller : ControllerSide) (packet : List Buffer) : Type 0 where
   pub one_ring : controller.table ≡ driver.table
   pub lawful : IsLawfulRxLedger Bytes (driver_size driver) (ledger_of driver controller)

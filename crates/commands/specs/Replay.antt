@@ -26,6 +26,7 @@ use Rattle.commands.specs.declared.replay.Shown.{Shown}
 use Rattle.commands.specs.declared.answering.TheConstants.{DONE, REFUSED}
 use Rattle.commands.specs.declared.refusal.Refusal.{Refusal}
 use Rattle.commands.specs.declared.refusal.Refusal.TheVariants as refusal
+use Rattle.commands.specs.Lists.{lists_of}
 
 -- the lines that are not passed over are the texts of these moves, in order
 pub record Says (lines : List (List ℕ)) (moves : List Move) : Type 0 where
@@ -166,18 +167,35 @@ pub record IsReplay (plan : QueuePlan) (text : List ℕ) (moves : List Move) : T
   pub says : Says (lines_of text) moves
   pub queues : AreQueues plan.pairs plan.ring
 
--- the page is what a list of moves prints on queues of the plan
+-- the page is what the moves in these lines print on queues as they are made
+pub record IsListPage (plan : QueuePlan) (lines : List (List ℕ)) (page : List ℕ) : Type 0 where
+  pub moves : List Move
+  pub says : Says lines moves
+  pub printed : Replayed plan.shown (world_of plan) moves page
+
+-- the pages of these lists, joined; each list has fresh queues
+abbrev pub ArePages : QueuePlan → List (List (List ℕ)) → List ℕ → Type 0
+ArePages plan [] page = page ≡ []
+ArePages plan (list ∷ lists) page =
+    (first : List ℕ) × (later : List ℕ) × IsListPage plan list first × ArePages plan lists later × (page ≡ first ++ later)
+
+-- the page of a text with these moves: one page, or with `lists` the page of each list in the text
+abbrev pub IsPrinted : Bool → QueuePlan → List ℕ → List Move → List ℕ → Type 0
+IsPrinted false plan text moves page = Replayed plan.shown (world_of plan) moves page
+IsPrinted true plan text moves page = ArePages plan (lists_of (lines_of text)) page
+
+-- the page is what a text prints on queues of the plan
 pub record HasPage (plan : QueuePlan) (text page : List ℕ) : Type 0 where
   pub moves : List Move
   pub replay : IsReplay plan text moves
-  pub printed : Replayed plan.shown (world_of plan) moves page
+  pub printed : IsPrinted plan.lists plan text moves page
 
 -- all moves were answered
 pub record HasReplayed (plan : QueuePlan) (text : List ℕ) (old new : Option (List ℕ)) : Type 0 where
   pub moves : List Move
   pub replay : IsReplay plan text moves
   pub page : List ℕ
-  pub replayed : Replayed plan.shown (world_of plan) moves page
+  pub replayed : IsPrinted plan.lists plan text moves page
   pub printed : Appends old new page
 
 -- why a text that was read is refused, the first that applies: a faulty line comes before queues that there can't be, and
@@ -188,6 +206,10 @@ ReplayRefused plan text (refusal.Machine RingLength) = IsMoveList text × ¬ (Ar
 ReplayRefused plan text (refusal.Machine MachineMemory) = (moves : List Move) × IsReplay plan text moves
 ReplayRefused plan text refusal.Memory = (moves : List Move) × IsReplay plan text moves
 ReplayRefused plan text e = ⊥
+
+-- memory was refused, to the machine or to the page
+abbrev pub LacksMemory : Refusal → Type 0
+LacksMemory e = (e ≡ refusal.Memory) ⊎ (e ≡ refusal.Machine MachineMemory)
 
 -- a text was read, which is the input's where that is known, and the page is what its moves print
 abbrev pub IsReplayed : QueuePlan → Option (List ℕ) → List ℕ → Type 0

@@ -1,4 +1,4 @@
-//! What a request does to the three streams, and the status that it ends with.
+//! Serves a request on the three streams, and returns its exit status.
 ghost use Rattle.std.specs.Prelude.{◌≡◌, ◌⊎◌, IfErr, IfOk, OnOk};
 ghost use Rattle.std.specs.String.{string_bytes};
 ghost use Rattle.std.specs.Io.KnownBytes.{Appends, Keeps};
@@ -14,15 +14,15 @@ use std::io::{Read, Write};
 use std::sync::Wait;
 use std::thread::Threads;
 
-/// The status of what was done.
+/// The exit status of a request that succeeded.
 pub const DONE: u8 = 0;
 
-/// The status of what was refused.
+/// The exit status of a request that was refused.
 pub const REFUSED: u8 = 1;
 
-/// Does what is asked for, and answers an exit status. What was asked for goes to `output`, with status 0. A refusal goes
-/// to `faults` as one line, `refused` with its number and its words, with status 1; before it stands the line or the record
-/// of the input that it is for, if it is for one. A failed write to `faults` changes no status.
+/// Serves a request, and returns an exit status. The text goes to `output`, with status 0. A refusal goes to `faults`
+/// as one line, `refused` with its number and its words, with status 1; the line or the record of the input that it
+/// concerns comes first, if there is one. A failed write to `faults` does not change the status.
 pub fn answer<R: Threads + Wait + Sync, I: Read, W: Write, E: Write>(
     rt: &R,
     alloc: Global,
@@ -41,7 +41,7 @@ pub fn answer<R: Threads + Wait + Sync, I: Read, W: Write, E: Write>(
     }
 }
 
-/// Does what is asked for. What it refuses before it prints leaves `output` as it was.
+/// Serves a request. A refusal other than `Output` leaves `output` unchanged.
 pub fn perform<R: Threads + Wait + Sync, I: Read, W: Write>(
     rt: &R,
     alloc: Global,
@@ -57,7 +57,7 @@ pub fn perform<R: Threads + Wait + Sync, I: Read, W: Write>(
     print(text.as_str(), output)
 }
 
-/// The text that a request prints.
+/// Returns the text that a request prints.
 fn text_of<R: Threads + Wait + Sync, I: Read>(
     rt: &R,
     alloc: Global,
@@ -74,7 +74,7 @@ fn text_of<R: Threads + Wait + Sync, I: Read>(
     }
 }
 
-/// Prints a text.
+/// Prints a text and flushes the output. Returns `Output` if that fails; part of the text may then be written.
 pub fn print<W: Write>(text: &str, output: &mut W) -> Result<(), Refusal>
     ensures done { OnOk result (Appends (W.contents output.old) (W.contents output.new) text.now) }
     ensures refused { IfErr result (λ e. e ≡ Refusal.Output) }
@@ -82,7 +82,7 @@ pub fn print<W: Write>(text: &str, output: &mut W) -> Result<(), Refusal>
     put(text.as_bytes(), output)
 }
 
-/// Writes bytes to the output, whatever they are.
+/// Writes any bytes and flushes the output. Returns `Output` if that fails; some of them may then be written.
 pub fn put<W: Write>(bytes: &[u8], output: &mut W) -> Result<(), Refusal>
     ensures done { OnOk result (Appends (W.contents output.old) (W.contents output.new) bytes.now) }
     ensures refused { IfErr result (λ e. e ≡ Refusal.Output) }
@@ -91,7 +91,7 @@ pub fn put<W: Write>(bytes: &[u8], output: &mut W) -> Result<(), Refusal>
     output.flush().map_err(|_| Refusal::Output)
 }
 
-/// Prints a refusal, and answers its status.
+/// Prints a refusal as one line, and returns its exit status. A failed write is ignored.
 pub fn refuse<E: Write>(faults: &mut E, refusal: Refusal) -> u8
     ensures { result ≡ REFUSED }
 {

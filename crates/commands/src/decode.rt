@@ -1,4 +1,4 @@
-//! The line of a descriptor, from the hex digits of its bytes.
+//! The command `decode`: prints the descriptor that 16 bytes in hex digits encode.
 ghost use Rattle.std.specs.Prelude.{◌≡◌, ◌⊎◌, ◌↔◌, ◌∷◌, [], ◌++◌, Some, IfOk, IfErr, IfSome, MatchResult};
 ghost use Rattle.std.specs.String.{string_bytes};
 ghost use Rattle.descriptor.specs.Layout.{AreBytes, KeepsBytes};
@@ -12,21 +12,21 @@ use descriptor::{DescError, Descriptor, RxBack, RxRead, TxBack, TxRead};
 use std::alloc::Global;
 use std::fmt::Display;
 
-/// The form in which bytes are read. They do not tell it.
+/// The form of a descriptor. Its bytes do not determine it.
 #[derive(Clone, Copy)]
 pub enum Form {
-    /// A receive descriptor as the driver posts it.
+    /// A receive descriptor as the driver posts it (82599 datasheet, 7.1.6.1).
     RxRead,
-    /// A receive descriptor as the controller writes it back.
+    /// A receive descriptor as the controller writes it back (82599 datasheet, 7.1.6.2).
     RxBack,
-    /// A transmit descriptor as the driver posts it.
+    /// A transmit descriptor as the driver posts it (82599 datasheet, 7.2.3.2.4).
     TxRead,
-    /// A transmit descriptor as the controller writes it back.
+    /// A transmit descriptor as the controller writes it back (82599 datasheet, 7.2.3.2.4).
     TxBack,
 }
 
 impl Form {
-    /// The form on the ring `rx` or `tx`, in the format `read` or `back`.
+    /// The form for the ring `rx` or `tx` and the format `read` or `back`, or `None` for other words.
     pub fn named(ring: &str, format: &str) -> Option<Form>
         ensures { (form : Form)
             → (result ≡ Some form) ↔ (ring.now ≡ ring_word form) × (format.now ≡ format_word form) }
@@ -41,10 +41,10 @@ impl Form {
     }
 }
 
-/// The line of the descriptor whose bytes the digits are.
+/// Decodes a descriptor, and returns its line of text.
 ///
-/// It answers `Hex` where the digits are no pairs, the refusal of the descriptor where the bytes are not of that form,
-/// and `Memory` where the growth was refused.
+/// Returns `Hex` if the digits are not pairs of hex digits, `Descriptor` with the lowest refusal that applies if the
+/// bytes do not have that form, and `Memory` if an allocation fails.
 pub fn decode(alloc: Global, form: Form, digits: &str) -> Result<String, Refusal>
     ensures ok { IfOk result (λ line. IsDecoded form (bytes_in digits.now) (Ok (string_bytes line))) }
     ensures err { IfErr result (λ e. (e ≡ Refusal.Memory) ⊎ IsDecoded form (bytes_in digits.now) (Err e)) }
@@ -53,7 +53,7 @@ pub fn decode(alloc: Global, form: Form, digits: &str) -> Result<String, Refusal
     read_as(alloc, form, bytes.as_slice())
 }
 
-/// The line of the descriptor that the bytes are in this form.
+/// Decodes bytes in this form, and returns the descriptor's line.
 fn read_as(alloc: Global, form: Form, bytes: &[u8]) -> Result<String, Refusal>
     ensures { MatchResult result (λ line. IsRead form bytes.now (Ok (string_bytes line))) (λ e. (e ≡ Refusal.Memory) ⊎ IsRead form bytes.now (Err e)) }
 {
@@ -65,7 +65,7 @@ fn read_as(alloc: Global, form: Form, bytes: &[u8]) -> Result<String, Refusal>
     }
 }
 
-/// What is printed, in a line of its own, of the descriptor whose bytes these are.
+/// Decodes bytes as a descriptor of type `D`, and returns its line.
 fn line_of<D: Descriptor + Display + Drop>(alloc: Global, bytes: &[u8]) -> Result<String, Refusal>
     ensures { MatchResult result
         (λ line. (d : D) × AreBytes D.form (D.numbers d) bytes.now × IfSome (D.output d) (λ text. string_bytes line ≡ text ++ 10 ∷ []))

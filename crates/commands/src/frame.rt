@@ -1,4 +1,4 @@
-//! The frame that an argument of hex digits says.
+//! Parses a frame in hex digits.
 ghost use Rattle.std.specs.Prelude.{◌≡◌, ◌⊎◌, IfOk, IfErr};
 ghost use Rattle.commands.specs.Frame.{frame_in};
 
@@ -8,10 +8,10 @@ use crate::refusal::Refusal;
 use limits::LEAST_FRAME;
 use std::alloc::Global;
 
-/// The bytes of pairs of hex digits, of either case, if they can be passed as a frame.
+/// Parses pairs of hex digits of either case as a frame.
 ///
-/// It answers `Hex` where the digits are no pairs, `FrameLength` where the bytes are fewer than an Ethernet header or
-/// more than `MOST_PASSED`, and `Memory` where the growth was refused.
+/// Returns `Hex` if the digits are not pairs of hex digits, `FrameLength` if the frame is shorter than an Ethernet
+/// header (14 bytes) or longer than `MOST_PASSED`, and `Memory` if an allocation fails.
 pub fn frame_of(alloc: Global, digits: &str) -> Result<Vec<u8>, Refusal>
     ensures ok { IfOk result (λ frame. frame_in digits.now ≡ Ok frame.items) }
     ensures err { IfErr result (λ e. (e ≡ Refusal.Memory) ⊎ (frame_in digits.now ≡ Err e)) }

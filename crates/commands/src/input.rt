@@ -1,4 +1,4 @@
-//! The text of standard input.
+//! Reads standard input.
 ghost use Rattle.std.specs.Prelude.{◌≡◌, ◌⊎◌, IfErr, IfOk, IfSome};
 ghost use Rattle.commands.specs.declared.refusal.Refusal.TheVariants as refusal;
 
@@ -6,7 +6,7 @@ use crate::refusal::Refusal;
 use std::alloc::Global;
 use std::io::{ErrorKind, Read};
 
-/// All bytes of the input. It answers `Input` where they can't be read, and `Memory` where the growth was refused.
+/// Reads all bytes of the input. Returns `Input` if they cannot be read, and `Memory` if an allocation fails.
 pub fn read_text<I: Read>(alloc: Global, input: &mut I) -> Result<Vec<u8>, Refusal>
     ensures read { IfOk result (λ text. IfSome (I.remaining input.old) (λ bytes. text.items ≡ bytes)) }
     ensures refused { IfErr result (λ e. (e ≡ refusal.Input) ⊎ (e ≡ refusal.Memory)) }

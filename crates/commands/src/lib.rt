@@ -1,12 +1,13 @@
-//! The commands of the program `poll82599`, as a library: what each of them does with typed requests and streams.
+//! The commands `once`, `decode` and `replay` of the program `poll82599`, as a library of typed requests on streams.
+//! It uses the ring crates, `descriptor` and `ring_machine`, but no forwarder.
+//! Its contracts pin the printed text of each request; a refusal other than `Output` leaves the output unchanged.
 //!
-//! A `Request` says what is asked for. `perform` does it: each command makes its text, and one place prints it. A
-//! request whose text was made and could not be printed ends in `Output`; whatever else is refused leaves the output as
-//! it was. `answer` does the same for a caller who wants an exit status, and prints the refusal.
+//! [`perform`] serves a [`Request`]: the command builds its whole text, which is then printed. If printing fails, it
+//! returns `Output`. [`answer`] also prints refusals and returns an exit status.
 //!
-//! `once` passes a frame through a receive ring, from a controller to a driver in threads of their own (`passing`),
-//! `decode` reads a descriptor, and `replay` makes a list of moves on queues. `digits` and `frame` read an argument of hex
-//! digits.
+//! `once` passes a frame through a receive ring, between a controller and a driver on separate threads (`passing`).
+//! `decode` reads a descriptor, and `replay` makes a list of moves on queues. `digits` and `frame` parse an argument of
+//! hex digits.
 #![tactic(auto)]
 
 mod answering;
@@ -14,6 +15,7 @@ mod decode;
 mod digits;
 mod frame;
 mod input;
+mod lists;
 mod once;
 mod passing;
 mod refusal;

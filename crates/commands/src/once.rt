@@ -1,4 +1,4 @@
-//! The command `once`: a frame is passed through a ring, and what the driver took is its text.
+//! The command `once`: passes a frame through a receive ring, and prints the packet that the driver took.
 ghost use Rattle.std.specs.Prelude.{◌≡◌, ◌⊎◌, IfErr, IfOk};
 ghost use Rattle.std.specs.String.{string_bytes};
 ghost use Rattle.buffer_pool.specs.Packed.{bytes_of};
@@ -13,7 +13,7 @@ use std::alloc::{AllocError, Global};
 use std::sync::Wait;
 use std::thread::Threads;
 
-/// Passes the frame of these hex digits through a receive ring, and answers the line of the frame that was taken.
+/// Passes the frame of these hex digits through a receive ring, and returns the line of the frame that was taken.
 pub fn once<R: Threads + Wait + Sync>(
     rt: &R,
     alloc: Global,
@@ -27,8 +27,8 @@ pub fn once<R: Threads + Wait + Sync>(
     Ok(taken_line(alloc, &passage)?)
 }
 
-/// The bytes of the packet that the driver took, as lower case hex digits, in a line of its own. It has nothing to read
-/// them from but that packet.
+/// Returns the bytes of the packet that the driver took, as a line of lower case hex digits. They are read from that
+/// packet alone.
 fn taken_line(alloc: Global, passage: &Passage) -> Result<String, AllocError>
     ensures { IfOk result (λ line. string_bytes line ≡ line_of (bytes_of passage.now.packet)) }
 {
@@ -38,7 +38,7 @@ fn taken_line(alloc: Global, passage: &Passage) -> Result<String, AllocError>
     Ok(line)
 }
 
-/// The bytes of a packet's segments, one segment's behind the other's.
+/// Returns the joined bytes of a packet's segments.
 fn joined(alloc: Global, packet: &Packet) -> Result<Vec<u8>, AllocError>
     ensures { IfOk result (λ bytes. bytes.items ≡ bytes_of packet.now) }
 {

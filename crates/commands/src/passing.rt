@@ -1,4 +1,4 @@
-//! One frame through a receive ring, whose two sides are in threads of their own.
+//! Passes one frame through a receive ring, whose two sides run on separate threads.
 ghost use Rattle.std.specs.Prelude.{◌≡◌, true, false, [], length, IfOk, IfErr};
 ghost use Rattle.refusals.specs.declared.errors.PoolError.TheVariants.{Memory};
 ghost use Rattle.ring_model.specs.shared.Handshakes.{is_live, is_open};
@@ -22,29 +22,29 @@ use std::sync::atomic::{AtomicBool, Ordering};
 use std::thread;
 use std::thread::{Promise, Threads};
 
-/// How many descriptors the ring has.
+/// Number of descriptors of the ring.
 const DESCRIPTORS: u32 = 8;
 
-/// The most bytes of a frame that is passed: as many buffers of `BUFFER_BYTES` as the ring can have free at once, which
-/// is one less than it has descriptors. A longer frame would be oversize for the ring, and is never offered.
+/// The longest frame that is passed, in bytes: it fills as many buffers of `BUFFER_BYTES` as the ring can have free at
+/// once, one less than its descriptors. A longer frame would be oversize for the ring, and is never offered.
 pub const MOST_PASSED: usize = (DESCRIPTORS as usize - 1) * BUFFER_BYTES;
 
 const _: () = prove!(MOST_PASSED == 14_336);
 
-/// How many buffers the driver's stash has.
+/// Number of buffers in the driver's stash.
 const BUFFERS: u32 = 16;
 
-/// How many packets the driver takes at once.
+/// The most packets that the driver takes in one batch.
 const BATCH: usize = 1;
 
-/// What the driver's thread gives back: its end, and the packet that it took out of the ring.
+/// The result of the driver's thread: its end of the ring, and the packet that it took.
 #[derive(Drop)]
 pub struct Reception {
     driver: RxDriverEnd,
     packet: Packet,
 }
 
-/// The driver takes a packet at this ring.
+/// The promise of the driver's thread: it takes a packet at this ring.
 #[derive(Clone, Copy)]
 struct TakesPacket<'a>(&'a RxRing);
 
@@ -52,7 +52,7 @@ impl<'a> Promise<Reception> for TakesPacket<'a> {
     ghost kept_by = { λ p r. TookPacket p.0.now r.driver r.packet };
 }
 
-/// The controller stores nothing but this frame at this ring.
+/// The promise of the controller's thread: it stores nothing but this frame at this ring.
 #[derive(Clone, Copy)]
 struct StoresOnly<'a>(&'a RxRing, &'a [u8]);
 
@@ -60,7 +60,7 @@ impl<'a> Promise<RxControllerEnd> for StoresOnly<'a> {
     ghost kept_by = { λ p controller. StoredOnly p.0.now p.1.now controller };
 }
 
-/// A frame that was passed: the two ends of the ring, and the packet that the driver took out of it.
+/// A frame that was passed: the two ends of the ring, and the packet that the driver took.
 #[derive(Drop)]
 pub struct Passage {
     pub driver: RxDriverEnd,
@@ -68,7 +68,8 @@ pub struct Passage {
     pub packet: Packet,
 }
 
-/// Passes a frame through a receive ring, between a controller and a driver in threads of their own.
+/// Passes a frame through a receive ring, between a controller and a driver on separate threads. Returns the ring's or
+/// the stock's `Memory`, or `Thread` if a thread cannot be started.
 pub fn pass<R: Threads + Wait + Sync>(
     rt: &R,
     alloc: Global,
@@ -90,7 +91,7 @@ pub fn pass<R: Threads + Wait + Sync>(
     })
 }
 
-/// A stash of the driver's buffers.
+/// Creates a stash of the driver's buffers.
 fn full_stash(alloc: Global) -> Result<Stash, PoolError>
     ensures full { IfOk result (λ stash. length stash ≡ BUFFERS) }
     ensures refused { IfErr result (λ e. e ≡ Memory) }
@@ -105,7 +106,7 @@ fn full_stash(alloc: Global) -> Result<Stash, PoolError>
     Ok(stash)
 }
 
-/// Runs both sides, each in a thread of its own, and joins both threads.
+/// Runs both sides on separate threads, and joins both threads.
 fn in_threads<R: Threads + Wait + Sync>(
     rt: &R,
     ring: &RxRing,
@@ -149,8 +150,8 @@ fn in_threads<R: Threads + Wait + Sync>(
     )
 }
 
-/// The driver's thread: has the queue enabled, and takes batches until a packet comes. The first of them finds nothing,
-/// and posts and publishes the buffers of the stash.
+/// The driver's thread: enables the queue, and takes batches until a packet arrives. The first batch is empty; it posts
+/// and publishes the buffers of the stash.
 fn receive<R: Wait>(rt: &R, ring: &RxRing, end: RxDriverEnd, mut stash: Stash) -> Reception
     requires own { end.table ≡ ring.now }
     requires fresh { IsFreshDriver end }
@@ -163,7 +164,7 @@ fn receive<R: Wait>(rt: &R, ring: &RxRing, end: RxDriverEnd, mut stash: Stash) -
     Reception { driver, packet }
 }
 
-/// Asks for the queue to be enabled, and waits until it is.
+/// Asks the controller to enable the queue, and waits until it has done so.
 fn enable<R: Wait>(rt: &R, ring: &RxRing, driver: &mut RxDriver)
     requires own { driver.old.end.table ≡ ring.now }
     requires open { is_open (driver_state driver.old.end) ≡ true }
@@ -182,7 +183,7 @@ fn enable<R: Wait>(rt: &R, ring: &RxRing, driver: &mut RxDriver)
     unreachable!()
 }
 
-/// Takes batches until a packet comes.
+/// Takes batches until a packet arrives.
 fn take_packet<R: Wait>(rt: &R, ring: &RxRing, driver: &mut RxDriver, stash: &mut Stash) -> Packet
     requires own { driver.old.end.table ≡ ring.now }
     requires live { is_live (driver_state driver.old.end) ≡ true }
@@ -203,8 +204,8 @@ fn take_packet<R: Wait>(rt: &R, ring: &RxRing, driver: &mut RxDriver, stash: &mu
     unreachable!()
 }
 
-/// The controller's thread: answers what is asked, and offers the frame until it is stored. Where `stop` is set before
-/// that, no driver will come, and nothing is stored.
+/// The controller's thread: serves the handshake, and offers the frame until it is stored. If `stop` is set first,
+/// there is no driver, and nothing is stored.
 fn serve<R: Wait>(
     rt: &R,
     ring: &RxRing,
@@ -228,8 +229,8 @@ fn serve<R: Wait>(
     unreachable!()
 }
 
-/// Answers what is asked, and offers the frame. It answers whether it was stored; where it was not, the queue is not
-/// enabled yet, or too few descriptors are free.
+/// Serves the handshake, offers the frame, and returns whether it was stored. If not, the queue is not enabled yet, or
+/// too few descriptors are free.
 fn turn(ring: &RxRing, controller: &mut RxController, frame: &[u8]) -> bool
     requires offers { Offers ring.now controller.old }
     requires fits { Fits ring.now frame.now }

@@ -1,4 +1,4 @@
-//! Why a command was refused.
+//! The refusals of the commands.
 ghost use Rattle.std.specs.Prelude.{◌≡◌};
 ghost use Rattle.commands.specs.Refusals.{refusal_number, refused_line, refused_record};
 ghost use Rattle.commands.specs.declared.refusal.Refusal.TheVariants.{Capture, Descriptor, Forward, Machine, Ring, Script, Stock, Memory};
@@ -13,49 +13,50 @@ use std::alloc::AllocError;
 use thiserror::Error;
 use wire_script::ScriptError;
 
-/// Why a command was refused. It is printed as `refused`, its number and its words.
+/// Why a command was refused. It is printed as `refused`, its number and its words. The refusals of the libraries keep
+/// their numbers.
 #[derive(Clone, Copy, Debug, Error)]
 pub enum Refusal {
-    /// The bytes are not the form of a descriptor.
+    /// The bytes do not encode a descriptor of the given form.
     #[error(transparent)]
     Descriptor(DescError),
-    /// The ring refused.
+    /// A ring could not be created.
     #[error(transparent)]
     Ring(RingError),
-    /// The stock of buffers refused.
+    /// The stock of buffers could not be created.
     #[error(transparent)]
     Stock(PoolError),
-    /// The frame is shorter than an Ethernet header, or longer than what is carried.
+    /// The frame is shorter than an Ethernet header, or longer than `once` can pass.
     #[error("frame length")]
     FrameLength,
     /// A thread could not be started.
     #[error("thread")]
     Thread,
-    /// The argument is no even number of hexadecimal digits.
+    /// The argument is not an even number of hexadecimal digits.
     #[error("hex")]
     Hex,
-    /// This line of the list of moves, counted from 1, is no move.
+    /// A line of the list of moves, counted from 1, is not a move.
     #[error("move")]
     Move { line: u64 },
-    /// The machine refused.
+    /// The ring machine refused.
     #[error(transparent)]
     Machine(MachineError),
-    /// The script refused.
+    /// The script is faulty, or could not be allocated.
     #[error(transparent)]
     Script(ScriptError),
     /// The forwarder refused.
     #[error(transparent)]
     Forward(ForwardError),
-    /// The capture refused.
+    /// The capture is faulty, or could not be allocated.
     #[error(transparent)]
     Capture(CaptureError),
     /// Standard input could not be read.
     #[error("input")]
     Input,
-    /// Memory was refused to the program itself.
+    /// An allocation of the program itself failed.
     #[error("memory")]
     Memory,
-    /// Standard output could not be written. A beginning of the output may have gone out.
+    /// Standard output could not be written. Part of the output may have been written.
     #[error("output")]
     Output,
     /// A file could not be read.
@@ -64,10 +65,13 @@ pub enum Refusal {
     /// A file could not be written.
     #[error("file not written")]
     FileNotWritten,
+    /// Two files of the command line are the same file.
+    #[error("same file")]
+    SameFile,
 }
 
 impl Refusal {
-    /// The number of the refusal. Those of the libraries are their own.
+    /// The number of the refusal, which is printed before its words.
     pub fn number(&self) -> u8
         ensures { result ≡ refusal_number self.now }
     {
@@ -88,10 +92,11 @@ impl Refusal {
             Refusal::Output => 84,
             Refusal::FileNotRead => 85,
             Refusal::FileNotWritten => 86,
+            Refusal::SameFile => 87,
         }
     }
 
-    /// The line of the input that is refused, counted from 1, if one is.
+    /// The refused line of the input, counted from 1, if the refusal concerns one.
     pub fn line(&self) -> Option<u64>
         ensures { result ≡ refused_line self.now }
     {
@@ -102,7 +107,7 @@ impl Refusal {
         }
     }
 
-    /// The record of the capture that is refused, counted from 1, if one is.
+    /// The refused record of the capture, counted from 1, if the refusal concerns one.
     pub fn record(&self) -> Option<u64>
         ensures { result ≡ refused_record self.now }
     {

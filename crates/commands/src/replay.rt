@@ -1,17 +1,20 @@
 //! A list of moves, read whole and then answered whole.
 
-ghost use Rattle.std.specs.Prelude.{◌≡◌, ◌++◌, ℕ, false, IfErr, IfNone, IfOk, IfSome, IsTrue, OnOk};
+ghost use Rattle.std.specs.Prelude.{◌≡◌, ◌↔◌, ◌⊎◌, ◌++◌, ℕ, false, IfErr, IfNone, IfOk, IfSome, IsTrue, OnOk};
 ghost use Rattle.std.specs.String.{string_bytes};
 ghost use Rattle.ring_model.specs.Worlds.{World, IsReachableWorld};
-ghost use Rattle.ring_machine.specs.Queues.{QueuesAgree};
+ghost use Rattle.refusals.specs.declared.errors.MachineError.TheVariants.{RingLength, Memory as MachineMemory};
+ghost use Rattle.ring_machine.specs.Queues.{AreQueues, QueuesAgree};
 ghost use Rattle.text_lines.specs.Parts.{lines_of, says_something};
-ghost use Rattle.commands.specs.Replay.{HasPage, IsFaulty, IsMoveList, IsNoMove, IsPageOf, IsReplayed, Reads, RefusesReplay, ReplayRefused, WroteMove, drawn_at_last, drawn_at_once, drawn_of, shown_registers};
+ghost use Rattle.commands.specs.Lists.{lists_of};
+ghost use Rattle.commands.specs.Replay.{ArePages, HasPage, IsFaulty, IsListPage, IsMoveList, IsNoMove, IsPageOf, IsReplayed, LacksMemory, Reads, RefusesReplay, ReplayRefused, WroteMove, drawn_at_last, drawn_at_once, drawn_of, shown_registers, world_of};
 
 use crate::input::read_text;
+use crate::lists::cut_list;
 use crate::refusal::Refusal;
 use crate::telling::{write_count, write_told};
 use pictures::write_queue;
-use ring_machine::{Completion, Move, Queues, Registers};
+use ring_machine::{Completion, MachineError, Move, Queues, Registers};
 use std::alloc::{AllocError, Global};
 use std::io::Read;
 use text_lines::{cut, says_something};
@@ -64,18 +67,21 @@ pub const NOTES: Shown = Shown {
 };
 
 /// Which queues the moves are made on: how many pairs, of how many descriptors each, whether they begin enabled, and
-/// how the transmit queues report; and what is printed of each move.
+/// how the transmit queues report; whether each list in the input has fresh queues; and what is printed of each move.
 #[derive(Clone, Copy)]
 pub struct QueuePlan {
     pub pairs: u32,
     pub ring: u32,
     pub enabled: bool,
     pub completion: Completion,
+    /// Whether a line `# end` ends a list, after which the queues start over and the count is printed. Otherwise such a line
+    /// is a comment.
+    pub lists: bool,
     pub shown: Shown,
 }
 
 /// Reads a list of moves to its end, makes them on queues of this plan, and answers one line for each and then how many
-/// were made of how many.
+/// were made of how many. With `plan.lists` it does so for each list in the input, on fresh queues.
 ///
 /// It answers the first that applies of `Input` (or `Memory`) where the input can't be read, `Move` where a line is no
 /// move, the machine's ring length where there can be no such queues, and the machine's or its own want of memory.
@@ -99,9 +105,52 @@ fn page_for(alloc: Global, plan: QueuePlan, text: &[u8]) -> Result<String, Refus
     if let Some(line) = faulty_line(text) {
         return Err(Refusal::Move { line });
     }
-    let (pairs, ring) = (plan.pairs as usize, plan.ring as usize);
-    let mut queues = Queues::new_with(alloc, pairs, ring, plan.enabled, plan.completion)?;
+    let mut queues = queues_of(alloc, plan)?;
+    if plan.lists {
+        return pages_of(alloc, plan, text);
+    }
     Ok(page_of(alloc, plan.shown, &mut queues, text)?)
+}
+
+/// New queues of this plan.
+fn queues_of(alloc: Global, plan: QueuePlan) -> Result<Queues, MachineError>
+    ensures refused { (result ≡ Err RingLength) ↔ ¬ (AreQueues plan.pairs plan.ring) }
+    ensures error { IfErr result (λ e. (e ≡ RingLength) ⊎ (e ≡ MachineMemory)) }
+    ensures made { IfOk result (λ queues. QueuesAgree queues (world_of plan)) }
+{
+    let (pairs, ring) = (plan.pairs as usize, plan.ring as usize);
+    Queues::new_with(alloc, pairs, ring, plan.enabled, plan.completion)
+}
+
+/// What each list of a text prints, joined.
+fn pages_of(alloc: Global, plan: QueuePlan, text: &[u8]) -> Result<String, Refusal>
+    requires moves { IsMoveList text.now }
+    requires queues { AreQueues plan.pairs plan.ring }
+    ensures done { IfOk result (λ pages. ArePages plan (lists_of (lines_of text.now)) (string_bytes pages)) }
+    ensures refused { IfErr result LacksMemory }
+{
+    let mut pages = String::new(alloc);
+    let mut rest = Some(text);
+    while let Some(left) = rest {
+        let cut = cut_list(left);
+        rest = cut.rest;
+        if cut.is_list {
+            let page = list_page(alloc, plan, cut.list)?;
+            pages.push_str(page.as_str())?;
+        }
+    }
+    Ok(pages)
+}
+
+/// What a list prints on new queues.
+fn list_page(alloc: Global, plan: QueuePlan, list: &[u8]) -> Result<String, Refusal>
+    requires moves { IsMoveList list.now }
+    requires queues { AreQueues plan.pairs plan.ring }
+    ensures done { IfOk result (λ page. IsListPage plan (lines_of list.now) (string_bytes page)) }
+    ensures refused { IfErr result LacksMemory }
+{
+    let mut queues = queues_of(alloc, plan)?;
+    Ok(page_of(alloc, plan.shown, &mut queues, list)?)
 }
 
 /// Whether a line is a move's text, or passed over.

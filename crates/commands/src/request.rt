@@ -1,15 +1,15 @@
-//! What is asked for.
+//! The requests.
 
 use crate::decode::Form;
 use crate::replay::QueuePlan;
 
-/// A request, with what it needs.
+/// A request, with its arguments.
 #[derive(Clone, Copy)]
 pub enum Request<'a> {
-    /// To pass the frame of these hex digits through a receive ring.
+    /// Passes the frame of these hex digits through a receive ring.
     Once { digits: &'a str },
-    /// To print the descriptor that the bytes of these hex digits are in a form.
+    /// Decodes the descriptor of these hex digits in this form.
     Decode { form: Form, digits: &'a str },
-    /// To make the moves of standard input on queues of this plan.
+    /// Makes the moves of standard input on queues of this plan.
     Replay { plan: QueuePlan },
 }

@@ -1,5 +1,5 @@
 -- What `schedules --cover` prints.
-use Rattle.std.specs.Prelude.{◌≡◌, ◌⊎◌, ℕ, Bool, List, [], ◌∷◌, ◌++◌, codes, Option, Some, All}
+use Rattle.std.specs.Prelude.{◌≡◌, ◌⊎◌, ℕ, false, List, [], ◌∷◌, ◌++◌, codes, Option, Some, All}
 use Rattle.std.specs.List.{flat_map}
 use Rattle.std.specs.Io.KnownBytes.{Appends}
 use Rattle.ring_machine.specs.declared.moves.Move.{Move}
@@ -9,7 +9,7 @@ use Rattle.commands.specs.declared.answering.TheConstants.{DONE, REFUSED}
 use Rattle.commands.specs.declared.refusal.Refusal.{Refusal}
 use Rattle.commands.specs.declared.refusal.Refusal.TheVariants as refusal
 use Rattle.commands.specs.declared.replay.QueuePlan.{QueuePlan}
-use Rattle.commands.specs.declared.replay.TheConstants.{NOTES}
+use Rattle.commands.specs.declared.replay.Shown.{Shown}
 use Rattle.coverage.specs.Lists.{Meets}
 use Rattle.coverage.specs.Pairs.{pair_text}
 use Rattle.coverage.specs.Tried.{completion_of}
@@ -19,9 +19,9 @@ use Rattle.coverage.specs.declared.tried.Side.TheVariants as side
 use Rattle.schedule_command.specs.Lists.{Follows, joined}
 use Rattle.cover_command.specs.declared.request.CoverRequest.{CoverRequest}
 
--- the queues that a list begins with, as `replay` makes them
-abbrev pub queues_of : Scope → QueuePlan
-queues_of s = record { pairs = 1; ring = 8; enabled = s.device_only; completion = completion_of s.side; shown = NOTES }
+-- the queues that a list begins with, as `replay` makes them, and the form of what it prints
+abbrev pub queues_of : Scope → Shown → QueuePlan
+queues_of s form = record { pairs = 1; ring = 8; enabled = s.device_only; completion = completion_of s.side; lists = false; shown = form }
 
 -- each move on a line of its own
 abbrev pub move_lines : List Move → List ℕ
@@ -32,26 +32,26 @@ abbrev pub list_text : CoverList → List ℕ
 list_text l = codes "# " ++ (pair_text l.pair ++ 10 ∷ []) ++ move_lines l.moves.items ++ codes "# end\n"
 
 -- the text of a list, and what follows it: what `replay` prints of it, or nothing
-pub record IsText (s : Scope) (expect : Bool) (l : CoverList) (text : List ℕ) : Type 0 where
+pub record IsText (s : Scope) (expect : Option Shown) (l : CoverList) (text : List ℕ) : Type 0 where
   pub more : List ℕ
   pub follows : Follows expect (queues_of s) (list_text l) more
   pub text_is : text ≡ list_text l ++ more
 
 -- the texts of these lists, in their order
-abbrev pub AreTexts : Scope → Bool → List CoverList → List (List ℕ) → Type 0
+abbrev pub AreTexts : Scope → Option Shown → List CoverList → List (List ℕ) → Type 0
 AreTexts s expect [] [] = Unit {0}
 AreTexts s expect [] (t ∷ ts) = ⊥
 AreTexts s expect (l ∷ ls) [] = ⊥
 AreTexts s expect (l ∷ ls) (t ∷ ts) = IsText s expect l t × AreTexts s expect ls ts
 
 -- these lists were printed, one behind another, and nothing else
-pub record PrintsLists (s : Scope) (expect : Bool) (lists : List CoverList) (old new : Option (List ℕ)) : Type 0 where
+pub record PrintsLists (s : Scope) (expect : Option Shown) (lists : List CoverList) (old new : Option (List ℕ)) : Type 0 where
   pub texts : List (List ℕ)
   pub are_texts : AreTexts s expect lists texts
   pub appends : Appends old new (joined texts)
 
 -- lists were printed that each meet the pair which its comment names
-pub record Prints (s : Scope) (expect : Bool) (old new : Option (List ℕ)) : Type 0 where
+pub record Prints (s : Scope) (expect : Option Shown) (old new : Option (List ℕ)) : Type 0 where
   pub lists : List CoverList
   pub meet : All (Meets s) lists
   pub printed : PrintsLists s expect lists old new
@@ -71,7 +71,7 @@ pub record PrintsCover (r : CoverRequest) (old new : Option (List ℕ)) : Type 0
 
 -- why a list was not printed: for want of memory, or because `replay` refuses its text
 abbrev pub NotPrinted : Scope → CoverList → Refusal → Type 0
-NotPrinted s l e = (e ≡ refusal.Memory) ⊎ RefusesReplay (queues_of s) (Some (list_text l)) e
+NotPrinted s l e = (e ≡ refusal.Memory) ⊎ ((form : Shown) × RefusesReplay (queues_of s form) (Some (list_text l)) e)
 
 -- fewer lists were printed: for want of memory, because a list was not, or because the output failed
 abbrev pub Refuses : Scope → Refusal → Type 0

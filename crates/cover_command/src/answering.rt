@@ -8,7 +8,7 @@ ghost use Rattle.cover_command.specs.Covers.{EndsCover, Prints, PrintsCover, Pri
 use crate::listing::list_of;
 use crate::request::CoverRequest;
 use crate::searching::search_of;
-use commands::{DONE, Refusal, print, refuse};
+use commands::{DONE, Refusal, Shown, print, refuse};
 use coverage::{CoverList, Scope, Side};
 use std::alloc::Global;
 use std::io::Write;
@@ -61,7 +61,7 @@ pub fn perform<W: Write, M: Write>(
 fn cover<W: Write, M: Write>(
     alloc: Global,
     scope: Scope,
-    expect: bool,
+    expect: Option<Shown>,
     output: &mut W,
     shown: &mut M,
 ) -> Result<(), Refusal>
@@ -77,7 +77,7 @@ fn cover<W: Write, M: Write>(
 fn print_lists<W: Write>(
     alloc: Global,
     scope: Scope,
-    expect: bool,
+    expect: Option<Shown>,
     lists: &[CoverList],
     output: &mut W,
 ) -> Result<(), Refusal>

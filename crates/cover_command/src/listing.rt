@@ -3,21 +3,22 @@ ghost use Rattle.std.specs.Prelude.{◌≡◌, ◌++◌, IfErr, IfOk, OnOk};
 ghost use Rattle.std.specs.String.{string_bytes};
 ghost use Rattle.cover_command.specs.Covers.{IsText, NotPrinted, list_text, move_lines, queues_of};
 
-use commands::{NOTES, QueuePlan, Refusal, replay_text};
+use commands::{QueuePlan, Refusal, Shown, replay_text};
 use coverage::{CoverList, Scope};
 use ring_machine::Move;
 use std::alloc::{AllocError, Global};
 
 // The queues that a list begins with.
-fn queues_of(scope: Scope) -> QueuePlan
-    ensures { result ≡ queues_of scope }
+fn queues_of(scope: Scope, shown: Shown) -> QueuePlan
+    ensures { result ≡ queues_of scope shown }
 {
     QueuePlan {
         pairs: 1,
         ring: 8,
         enabled: scope.device_only,
         completion: scope.side.completion(),
-        shown: NOTES,
+        lists: false,
+        shown,
     }
 }
 
@@ -46,15 +47,16 @@ fn text_of(alloc: Global, list: &CoverList) -> Result<String, AllocError>
 pub(crate) fn list_of(
     alloc: Global,
     scope: Scope,
-    expect: bool,
+    expect: Option<Shown>,
     list: &CoverList,
 ) -> Result<String, Refusal>
     ensures done { IfOk result (λ text. IsText scope expect list.now (string_bytes text)) }
     ensures refused { IfErr result (NotPrinted scope list.now) }
 {
     let mut text = text_of(alloc, list)?;
-    if expect {
-        let expected = replay_text(alloc, queues_of(scope), &mut text.as_bytes())?;
+    if let Some(shown) = expect {
+        let queues = queues_of(scope, shown);
+        let expected = replay_text(alloc, queues, &mut text.as_bytes())?;
         text.push_str(expected.as_str())?;
     }
     Ok(text)

@@ -1,12 +1,11 @@
--- What `forward` with captures reads, prints and refuses.
+-- The input, the output and the refusals of `forward` with captures.
 use Rattle.std.specs.Prelude.{◌≡◌, ◌⊎◌, ℕ, ◌<◌, List, [], ◌∷◌, length, Option, Ok, IfSome}
 use Rattle.std.specs.Io.KnownBytes.{Appends, Keeps}
 use Rattle.commands.specs.declared.refusal.Refusal.{Refusal}
 use Rattle.commands.specs.declared.refusal.Refusal.TheVariants as refusal
 use Rattle.flows.specs.declared.report.FlowReport.{FlowReport}
 use Rattle.forward_command.specs.Forwards.{AreReports, IsUnforwarded}
-use Rattle.forward_command.specs.Text.{report_text}
-use Rattle.forward_command.specs.declared.printing.Printing.{Printing}
+use Rattle.forward_command.specs.Streams.{Outlet, output_bytes}
 use Rattle.forwarder.specs.declared.config.Config.{Config}
 use Rattle.wire_script.specs.Frame.{Frame}
 use Rattle.wire_script.specs.Script.{script_of}
@@ -19,63 +18,74 @@ use Rattle.forward_command.specs.Wires.{IsUncaptured}
 use Rattle.forward_command.specs.Refusals.{refused_itself}
 use Rattle.forward_command.specs.Words.{PortFile, SourceFile}
 
--- the script of a text that was read, which is the input's where that is known; with sources, that of their captures
+-- the script of the text that was read, which is the input if the input is known; with sources, that of their captures
 abbrev pub IsScript : List SourceFile → Option (List ℕ) → List Frame → Type 0
 IsScript [] input script = (text : List ℕ) × IfSome input (λ known. text ≡ known) × (script_of text ≡ Ok script)
 IsScript (s ∷ ss) input script = AreGathered (s ∷ ss) script
 
--- why a text has none
+-- why there is no script in the input
 abbrev pub IsFaulty : Option (List ℕ) → Refusal → Type 0
 IsFaulty input e =
     (e ≡ refusal.Input) ⊎ ((e ≡ refusal.Memory) ⊎ ((text : List ℕ) × IfSome input (λ known. text ≡ known)
     × (fault : ScriptError) × (e ≡ refusal.Script fault) × Fails fault (script_of text)))
 
--- or sources
+-- why there is no script
 abbrev pub IsNoScript : List SourceFile → Option (List ℕ) → Refused → Type 0
 IsNoScript [] input e = (e.place ≡ Command) × IsFaulty input e.refusal
 IsNoScript (s ∷ ss) input e = IsUngathered (s ∷ ss) e
 
--- these are the reports of the flows of the sources' script, or of the input's
+-- these are the reports of the flows of the sources' script, or of the input's script
 pub record HasReports (config : Config) (sources : List SourceFile) (input : Option (List ℕ)) (flows : List FlowReport) : Type 0 where
   pub script : List Frame
   pub says : IsScript sources input script
   pub reports : AreReports config script flows
 
--- why there are no reports: there is no script, or it is not forwarded
+-- why there are no reports: there is no script, or its forwarding is refused
 abbrev pub HasNoReports : Config → List SourceFile → Option (List ℕ) → Refused → Type 0
 HasNoReports config sources input e =
     IsNoScript sources input e ⊎ ((script : List Frame) × IsScript sources input script × (e.place ≡ Command) × IsUnforwarded config script e.refusal)
 
--- a wire file can't be written, or there is no capture for it
-abbrev pub IsUnwritten : List PortFile → Refused → Type 0
-IsUnwritten wires e = (at : ℕ) × (at < length wires) × (e.place ≡ Wire at) × ((e.refusal ≡ refusal.FileNotWritten) ⊎ IsUncaptured e.refusal)
+-- why a wire file is refused before anything is forwarded: it cannot be written, it is the same file as another, or
+-- memory is missing
+abbrev pub IsTaken : Refusal → Type 0
+IsTaken e = (e ≡ refusal.FileNotWritten) ⊎ ((e ≡ refusal.SameFile) ⊎ (e ≡ refusal.Memory))
 
--- no memory for the page, or a wire file that is not written
+abbrev pub IsUntargeted : List PortFile → Refused → Type 0
+IsUntargeted wires e = (e ≡ refused_itself refusal.Memory) ⊎ ((at : ℕ) × (at < length wires) × (e.place ≡ Wire at) × IsTaken e.refusal)
+
+-- a wire file cannot be written, or there is no capture for it
+abbrev pub IsLost : Refusal → Type 0
+IsLost e = (e ≡ refusal.FileNotWritten) ⊎ IsUncaptured e
+
+abbrev pub IsUnwritten : List PortFile → Refused → Type 0
+IsUnwritten wires e = (at : ℕ) × (at < length wires) × (e.place ≡ Wire at) × IsLost e.refusal
+
+-- memory is missing for the page, or a wire file is not written
 abbrev pub IsUnpaged : List PortFile → Refused → Type 0
 IsUnpaged wires e = (e ≡ refused_itself refusal.Memory) ⊎ IsUnwritten wires e
 
--- the page is what these reports print
-pub record IsPage (config : Config) (printing : Printing) (sources : List SourceFile) (input : Option (List ℕ)) (page : List ℕ) : Type 0 where
+-- the page is the standard output for these reports
+pub record IsPage (config : Config) (to : Outlet) (sources : List SourceFile) (input : Option (List ℕ)) (page : List ℕ) : Type 0 where
   pub flows : List FlowReport
   pub reports : HasReports config sources input flows
-  pub printed : page ≡ report_text printing config.pairs flows
+  pub printed : page ≡ output_bytes to.printing to.stream config.pairs flows
 
--- why there is no page
+-- why there is no page: a wire file is refused at the start, there are no reports, or a page or file is not written
 abbrev pub HasNoPage : Config → List SourceFile → List PortFile → Option (List ℕ) → Refused → Type 0
 HasNoPage config sources wires input e =
-    HasNoReports config sources input e ⊎ ((flows : List FlowReport) × HasReports config sources input flows × IsUnpaged wires e)
+    IsUntargeted wires e ⊎ (HasNoReports config sources input e ⊎ ((flows : List FlowReport) × HasReports config sources input flows × IsUnpaged wires e))
 
--- the page was printed whole
-abbrev pub PrintsPage : Config → Printing → List SourceFile → Option (List ℕ) → Option (List ℕ) → Option (List ℕ) → Type 0
-PrintsPage config printing sources input old new = (page : List ℕ) × IsPage config printing sources input page × Appends old new page
+-- the whole page was printed
+abbrev pub PrintsPage : Config → Outlet → List SourceFile → Option (List ℕ) → Option (List ℕ) → Option (List ℕ) → Type 0
+PrintsPage config to sources input old new = (page : List ℕ) × IsPage config to sources input page × Appends old new page
 
--- there is none, and the output is as it was; or the output failed. Only a failed output has bytes of it
-abbrev pub WithholdsPage : Config → Printing → List SourceFile → List PortFile → Option (List ℕ) → Refused → Option (List ℕ) → Option (List ℕ) → Type 0
-WithholdsPage config printing sources wires input e old new =
+-- there is no page, and the output is unchanged; or the output failed, and may have part of the page
+abbrev pub WithholdsPage : Config → Outlet → List SourceFile → List PortFile → Option (List ℕ) → Refused → Option (List ℕ) → Option (List ℕ) → Type 0
+WithholdsPage config to sources wires input e old new =
     (HasNoPage config sources wires input e × Keeps old new)
-    ⊎ ((page : List ℕ) × IsPage config printing sources input page × (e ≡ refused_itself refusal.Output))
+    ⊎ ((page : List ℕ) × IsPage config to sources input page × (e ≡ refused_itself refusal.Output))
 
--- it was refused with nothing printed, or with a page for an output that failed
-abbrev pub EndsRefused : Config → Printing → List SourceFile → Option (List ℕ) → Option (List ℕ) → Option (List ℕ) → Type 0
-EndsRefused config printing sources input old new =
-    Keeps old new ⊎ ((page : List ℕ) × IsPage config printing sources input page)
+-- the run was refused with nothing printed, or with a page whose output failed
+abbrev pub EndsRefused : Config → Outlet → List SourceFile → Option (List ℕ) → Option (List ℕ) → Option (List ℕ) → Type 0
+EndsRefused config to sources input old new =
+    Keeps old new ⊎ ((page : List ℕ) × IsPage config to sources input page)

@@ -1,17 +1,16 @@
--- Lines of flows among those of wires.
+-- Skips the lines of flows among those of wires.
 use Rattle.std.specs.Prelude.{ℕ, ◌==◌, Bool, ◌&&◌, if◌then◌else◌, List, [], ◌∷◌, codes, drop, take}
 use Rattle.std.specs.Str.{bytes_eq}
 
--- the bytes begin as the line of a flow does
+-- the bytes begin like the line of a flow
 abbrev pub tells_of_flow : List ℕ → Bool
 tells_of_flow bytes = bytes_eq (take 5 bytes) (codes "flow ")
 
--- a line that does is a comment, and so it is passed over
+-- such a line becomes a comment, which the script parser skips
 abbrev pub passed_line : List ℕ → List ℕ
 passed_line line = if tells_of_flow line then 35 ∷ drop 1 line else line
 
--- a text with `#` in place of the first byte of each such line, as the code goes over it: these bytes are left, and they
--- begin a line or not
+-- a text with `#` in place of the first byte of each such line: the remaining bytes, and whether they begin a line
 abbrev pub without_flows : Bool → List ℕ → List ℕ
 without_flows begins [] = []
 without_flows begins (b ∷ bytes) =

@@ -1,4 +1,4 @@
--- What `forward` reads, prints and refuses.
+-- The input, the output and the refusals of `forward`.
 use Rattle.std.specs.Prelude.{◌≡◌, ◌⊎◌, ℕ, ◌*◌, ◌<◌, List, length, slice_index_or, Option, Ok, Err, IfSome}
 use Rattle.std.specs.Io.KnownBytes.{Appends, Keeps}
 use Rattle.limits.specs.declared.profile.TheConstants.{PORTS}
@@ -19,13 +19,13 @@ use Rattle.refusals.specs.declared.errors.ScriptError.{ScriptError}
 use Rattle.forward_command.specs.Text.{report_text}
 use Rattle.forward_command.specs.declared.printing.Printing.{Printing}
 
--- these are the reports of a script's flows, which fits
+-- these are the reports of the flows of a script that fits the configuration
 pub record AreReports (config : Config) (script : List Frame) (flows : List FlowReport) : Type 0 where
   pub fits : FitsIn script config
   pub count : length flows ≡ PORTS * config.pairs
   pub reports : (flow : ℕ) (d : FlowReport) → flow < PORTS * config.pairs → IsReport (plan config script flow) (slice_index_or flows flow d)
 
--- why a script has none: it doesn't fit; or it does, and the run wants memory or a thread. No gate refuses
+-- why there are none: the script does not fit; or it fits, and memory or a thread is missing. The gate never refuses
 abbrev pub IsUnrun : Config → List Frame → ForwardError → Type 0
 IsUnrun config script forward.Config = ¬ (FitsIn script config)
 IsUnrun config script forward.Memory = FitsIn script config
@@ -35,13 +35,13 @@ IsUnrun config script forward.Gate = ⊥
 abbrev pub IsUnforwarded : Config → List Frame → Refusal → Type 0
 IsUnforwarded config script e = (why : ForwardError) × (e ≡ refusal.Forward why) × IsUnrun config script why
 
--- these are the reports of the flows of the script that a text is
+-- these are the reports of the flows of a text's script
 pub record HasReport (config : Config) (text : List ℕ) (flows : List FlowReport) : Type 0 where
   pub script : List Frame
   pub says : script_of text ≡ Ok script
   pub reports : AreReports config script flows
 
--- the page is what a report of it prints
+-- the page is the text of a report of it
 pub record HasPage (config : Config) (printing : Printing) (text page : List ℕ) : Type 0 where
   pub flows : List FlowReport
   pub report : HasReport config text flows
@@ -53,34 +53,34 @@ pub record HasForwarded (config : Config) (printing : Printing) (text : List ℕ
   pub report : HasReport config text flows
   pub printed : Appends old new (report_text printing config.pairs flows)
 
--- Why a text that was read is refused, the first that applies: its own fault comes before a configuration that doesn't fit,
--- and that before what the run, or the text of what came of it, wants
+-- Why a text that was read is refused, the first that applies: its own fault, then a configuration that does not fit,
+-- then missing memory or threads
 abbrev pub ForwardRefused : Config → List ℕ → Refusal → Type 0
 ForwardRefused config text (refusal.Script e) = Fails e (script_of text)
 ForwardRefused config text (refusal.Forward why) = (script : List Frame) × (script_of text ≡ Ok script) × IsUnrun config script why
 ForwardRefused config text refusal.Memory = (script : List Frame) × (script_of text ≡ Ok script) × FitsIn script config
 ForwardRefused config text e = ⊥
 
--- a text was read, which is the input's where that is known, and the page is what a report of it prints
+-- a text was read, which is the input if the input is known, and the page is the text of a report of it
 abbrev pub IsForwarded : Config → Printing → Option (List ℕ) → List ℕ → Type 0
 IsForwarded config printing input page = (text : List ℕ) × IfSome input (λ known. text ≡ known) × HasPage config printing text page
 
--- or nothing was read, or its text was refused
+-- nothing was read, or the text was refused
 abbrev pub RefusesForward : Config → Option (List ℕ) → Refusal → Type 0
 RefusesForward config input e =
     (e ≡ refusal.Input) ⊎ ((e ≡ refusal.Memory) ⊎ ((text : List ℕ) × IfSome input (λ known. text ≡ known) × ForwardRefused config text e))
 
--- its page was printed whole, where the output's bytes are known
+-- the whole page was printed, if the output's bytes are known
 abbrev pub PrintsForward : Config → Printing → Option (List ℕ) → Option (List ℕ) → Option (List ℕ) → Type 0
 PrintsForward config printing input old new = (page : List ℕ) × IsForwarded config printing input page × Appends old new page
 
--- it was refused: it has no page, and the output is as it was, or the output failed. Only a failed output has bytes of it
+-- it was refused: there is no page, and the output is unchanged; or the output failed, and may have part of the page
 abbrev pub WithholdsForward : Config → Printing → Option (List ℕ) → Refusal → Option (List ℕ) → Option (List ℕ) → Type 0
 WithholdsForward config printing input e old new =
     (RefusesForward config input e × Keeps old new) ⊎ ((page : List ℕ) × IsForwarded config printing input page × (e ≡ refusal.Output))
 
--- how `forward` of this text ends: it is forwarded and printed, or refused. A faulty text, and a configuration that does
--- not fit, are always refused, with nothing printed
+-- how `forward` ends for this text: it is forwarded and printed, or refused. A faulty text and a configuration that
+-- does not fit are always refused, with nothing printed
 pub record EndsForward (config : Config) (printing : Printing) (text : List ℕ) (status : ℕ) (old new : Option (List ℕ)) : Type 0 where
   pub done : status ≡ DONE → HasForwarded config printing text old new
   pub either : (status ≡ DONE) ⊎ (status ≡ REFUSED)

@@ -13,17 +13,17 @@ use Rattle.forward_command.specs.declared.captured.refused.Place.TheVariants.{So
 use Rattle.forward_command.specs.declared.captured.refused.Refused.{Refused}
 use Rattle.forward_command.specs.Words.{SourceFile}
 
--- frames and others behind them, or, at the record where it comes, one too many
+-- frames followed by others, or `TooMany` with the number of the first record that does not fit
 abbrev pub with_frames : List Frame → List Frame → Result (List Frame) CaptureError
 with_frames before frames =
     if nat_lt MOST_SCRIPT_FRAMES (length before + length frames) then Err (TooMany (MOST_SCRIPT_FRAMES - length before + 1)) else Ok (before ++ frames)
 
--- frames and those of a capture behind them, each at this port and queue; or the capture's first fault, of which what is
--- wrong with it alone comes first
+-- frames followed by those of a capture, each at this port and queue; or the first fault, where faults of the capture
+-- itself come first
 unfoldable pub with_capture : List Frame → ℕ → ℕ → List ℕ → Result (List Frame) CaptureError
 with_capture before port queue bytes = capture_in bytes >>= λ c. with_frames before (frames_at port queue c.records)
 
--- captures of these sources, one each and in their order, lead from the first frames to the second
+-- captures of these sources, one each and in order, lead from the first frames to the second
 abbrev pub Gathers : List SourceFile → List Frame → List Frame → Type 0
 Gathers [] before after = before ≡ after
 Gathers (s ∷ ss) before after =
@@ -33,13 +33,13 @@ Gathers (s ∷ ss) before after =
 abbrev pub AreGathered : List SourceFile → List Frame → Type 0
 AreGathered sources frames = Gathers sources [] frames
 
--- after these frames a source is refused: its file can't be read, or there was no memory for it, or its capture has this fault
+-- after these frames a source is refused: its file cannot be read, memory is missing, or its capture has this fault
 abbrev pub IsUnread : SourceFile → List Frame → Refusal → Type 0
 IsUnread s before e =
     (e ≡ refusal.FileNotRead) ⊎ ((e ≡ refusal.Memory) ⊎ ((bytes : List ℕ) × (fault : CaptureError) × (e ≡ refusal.Capture fault)
     × Fails fault (with_capture before s.port s.queue bytes)))
 
--- the first source that is refused, and why: captures of those before it were gathered
+-- the first source that is refused, and why: captures of the sources before it were gathered
 pub record IsUngathered (sources : List SourceFile) (e : Refused) : Type 0 where
   pub at : ℕ
   pub source : SourceFile

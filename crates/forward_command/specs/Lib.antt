@@ -8,6 +8,7 @@ pub mod Words
 pub mod Gathering
 pub mod Refusals
 pub mod Wires
+pub mod Streams
 pub mod CaptureForwards
 pub mod ShownLines
 pub mod ShownSums

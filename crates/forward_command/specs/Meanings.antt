@@ -1,4 +1,4 @@
--- What the commands make of the bytes of their input, and how they answer it.
+-- The conversions of `from-capture` and `to-capture`, and how the commands end.
 use Rattle.std.specs.Prelude.{◌≡◌, ◌⊎◌, ℕ, List, map, Option, Result, Ok, Err, IfSome, IsOk}
 use Rattle.std.specs.Result.{result_map_both}
 use Rattle.std.specs.Io.KnownBytes.{Appends, Keeps}
@@ -18,47 +18,47 @@ use Rattle.forward_command.specs.declared.piped.request.CaptureRequest.{CaptureR
 use Rattle.forward_command.specs.declared.piped.request.CaptureRequest.TheVariants.{FromCapture, ToCapture}
 use Rattle.forward_command.specs.Flows.{passed_line}
 
--- a capture's frames as lines of a script at this port and queue, or the capture's first fault
+-- a capture's frames as script lines at this port and queue, or the capture's first fault
 abbrev pub lines_meant : ℕ → ℕ → List ℕ → Result (List ℕ) Refusal
 lines_meant port queue bytes =
     result_map_both (λ c. text_for (frames_at port queue c.records)) (λ e. refusal.Capture e) (capture_in bytes)
 
--- the frames that a text's lines say past those of flows, or the first fault
+-- the frames of a text's lines without those of flows, or the first fault
 abbrev pub wires_in : List ℕ → Result (List Frame) ScriptError
 wires_in text = lines_say 1 0 (map passed_line (lines_of text))
 
--- and the capture of a port's
+-- the capture of the frames of a port, or the first fault
 abbrev pub capture_meant : ℕ → List ℕ → Result (List ℕ) Refusal
 capture_meant port text =
     result_map_both (λ frames. capture_of (records_of_port port frames)) (λ e. refusal.Script e) (wires_in text)
 
--- what a request makes of the input's bytes
+-- the result of a request on the input's bytes
 abbrev pub meant : CaptureRequest → List ℕ → Result (List ℕ) Refusal
 meant (FromCapture port queue) bytes = lines_meant port queue bytes
 meant (ToCapture port) bytes = capture_meant port bytes
 
--- memory was refused to the reading of a capture or of a script, whatever is in it
+-- memory was missing to read a capture or a script, whatever its contents
 abbrev pub IsUnread : Refusal → Type 0
 IsUnread e = (e ≡ refusal.Capture NoRecords) ⊎ (e ≡ refusal.Script NoFrames)
 
--- this refusal was meant; or bytes were meant, for which there was no memory; or what reads had none
+-- the result is this refusal; or it is bytes, for which memory was missing; or memory was missing to read the input
 abbrev pub IsRefusedAs : Result (List ℕ) Refusal → Refusal → Type 0
 IsRefusedAs meant e = (meant ≡ Err e) ⊎ (((e ≡ refusal.Memory) × IsOk meant) ⊎ IsUnread e)
 
--- bytes were read, which are the input's where those are known, and this is made of them
+-- bytes were read, which are the input if the input is known, and this is their result
 abbrev pub Makes : (List ℕ → Result (List ℕ) Refusal) → Option (List ℕ) → List ℕ → Type 0
 Makes meant input page = (bytes : List ℕ) × IfSome input (λ known. bytes ≡ known) × (meant bytes ≡ Ok page)
 
--- or nothing was read, or what was read is refused
+-- nothing was read, or the bytes were refused
 abbrev pub Refuses : (List ℕ → Result (List ℕ) Refusal) → Option (List ℕ) → Refusal → Type 0
 Refuses meant input e =
     (e ≡ refusal.Input) ⊎ ((e ≡ refusal.Memory) ⊎ ((bytes : List ℕ) × IfSome input (λ known. bytes ≡ known) × IsRefusedAs (meant bytes) e))
 
--- it was written whole, where the output's bytes are known
+-- the whole result was written, if the output's bytes are known
 abbrev pub Prints : (List ℕ → Result (List ℕ) Refusal) → Option (List ℕ) → Option (List ℕ) → Option (List ℕ) → Type 0
 Prints meant input old new = (page : List ℕ) × Makes meant input page × Appends old new page
 
--- it was refused, and the output is as it was, or the output failed. Only a failed output has bytes of it
+-- it was refused, and the output is unchanged; or the output failed, and may have part of the result
 abbrev pub Withholds : (List ℕ → Result (List ℕ) Refusal) → Option (List ℕ) → Refusal → Option (List ℕ) → Option (List ℕ) → Type 0
 Withholds meant input e old new =
     (Refuses meant input e × Keeps old new) ⊎ ((page : List ℕ) × Makes meant input page × (e ≡ refusal.Output))

@@ -1,4 +1,4 @@
--- A flow's report as a JSON object, on a line of its own.
+-- A flow's report as a JSON object on its own line.
 use Rattle.std.specs.Prelude.{ℕ, List, ◌++◌, codes, decimal, length, sum_by}
 use Rattle.flows.specs.declared.report.Ended.{Ended}
 use Rattle.flows.specs.declared.report.Ended.TheVariants.{Cut, Drained}
@@ -8,13 +8,13 @@ abbrev pub ended_word : Ended → List ℕ
 ended_word Drained = codes "drained"
 ended_word Cut = codes "cut"
 
--- what a flow was offered, which came in at this port and queue, and what became of it at its receive ring
+-- the frames offered to the flow at this port and queue, and their fate at its receive ring
 abbrev pub offered_members : ℕ → ℕ → FlowReport → List ℕ
 offered_members port queue r =
     codes "{\"port\":" ++ (decimal port ++ (codes ",\"queue\":" ++ (decimal queue ++ (codes ",\"offered\":" ++ (decimal r.offered
     ++ (codes ",\"stored\":" ++ (decimal r.stored ++ (codes ",\"dropped\":" ++ (decimal r.dropped ++ (codes ",\"oversize\":" ++ decimal r.oversize))))))))))
 
--- what its driver did, what went out of it, and what was left
+-- the counts of its driver, and the frames that went out and remained
 abbrev pub driven_members : FlowReport → List ℕ
 driven_members r =
     codes ",\"taken\":" ++ (decimal r.taken ++ (codes ",\"posted\":" ++ (decimal r.posted ++ (codes ",\"tx_dropped\":" ++ (decimal r.tx_dropped
@@ -26,11 +26,11 @@ directions received dropped sent bytes =
     codes ",\"rx_packets\":" ++ (decimal received ++ (codes ",\"rx_dropped\":" ++ (decimal dropped
     ++ (codes ",\"tx_packets\":" ++ (decimal sent ++ (codes ",\"tx_bytes\":" ++ decimal bytes))))))
 
--- what was stored was received, and what is on the wire was sent
+-- stored frames count as received, and frames on the wire as sent
 abbrev pub direction_members : FlowReport → List ℕ
 direction_members r = directions r.stored r.dropped (length r.wire) (sum_by length r.wire)
 
--- and how it ended
+-- how it ended
 abbrev pub ended_member : FlowReport → List ℕ
 ended_member r = codes ",\"ended\":\"" ++ (ended_word r.ended ++ codes "\"}\n")
 

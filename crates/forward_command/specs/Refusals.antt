@@ -1,4 +1,4 @@
--- What is refused, and for what.
+-- A refusal, and its subject.
 use Rattle.commands.specs.declared.refusal.Refusal.{Refusal}
 use Rattle.forward_command.specs.declared.captured.refused.Place.TheVariants.{Command}
 use Rattle.forward_command.specs.declared.captured.refused.Refused.{Refused}

@@ -1,20 +1,20 @@
--- What is shown of a run.
+-- The text of a run's progress.
 use Rattle.std.specs.Prelude.{ℕ, List, ◌∷◌, ◌++◌, codes, decimal}
 use Rattle.forward_command.specs.declared.progress.line.Form.{Form}
 use Rattle.forward_command.specs.declared.progress.line.Form.TheVariants.{Lines, Rewritten, Objects}
 use Rattle.forward_command.specs.declared.progress.line.Shown.{Shown}
 
--- the numbers, each behind its word
+-- the numbers, each after its word
 abbrev pub words_of : Shown → List ℕ
 words_of s = codes "offered " ++ decimal s.offered ++ codes " of " ++ decimal s.frames ++ codes " taken " ++ decimal s.taken
     ++ codes " posted " ++ decimal s.posted ++ codes " per-second " ++ decimal s.per_second
 
--- as members of a JSON object
+-- the numbers as members of a JSON object
 abbrev pub members_of : Shown → List ℕ
 members_of s = codes "\"offered\":" ++ decimal s.offered ++ codes ",\"frames\":" ++ decimal s.frames ++ codes ",\"taken\":" ++ decimal s.taken
     ++ codes ",\"posted\":" ++ decimal s.posted ++ codes ",\"per_second\":" ++ decimal s.per_second
 
--- a line of a terminal is begun anew, and what stood there is cleared: CR, ESC and `[K`
+-- a rewritten line of a terminal begins with CR, ESC and `[K`, which clear it
 abbrev pub line_text : Form → Shown → List ℕ
 line_text Lines s = words_of s
 line_text Rewritten s = (13 ∷ 27 ∷ codes "[K") ++ words_of s

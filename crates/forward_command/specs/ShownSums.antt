@@ -1,4 +1,4 @@
--- What is read of all flows.
+-- The sums over all flows.
 use Rattle.std.specs.Prelude.{◌≡◌, ℕ, ◌+◌, ◌-◌, ◌^◌, min, List, [], ◌∷◌}
 use Rattle.counters.specs.declared.flows.FlowCells.{FlowCells}
 use Rattle.forward_command.specs.declared.progress.reader.Reader.{Reader}
@@ -9,11 +9,11 @@ use Rattle.forward_command.specs.declared.progress.line.Shown.{Shown}
 abbrev pub read_by : Reader → FlowCells
 read_by r = r.cells.now
 
--- a sum of two counts, or the greatest count where that is less
+-- the saturated sum of two counts
 abbrev pub added : ℕ → ℕ → ℕ
 added m n = min (m + n) (2 ^ 64 - 1)
 
--- what a flow's passes read last, added to these numbers
+-- these numbers plus those that a flow's passes read last
 abbrev pub with_flow : Seen → Reader → Seen
 with_flow seen r = record {
   offered = added seen.offered r.stat.last.offered;
@@ -21,7 +21,7 @@ with_flow seen r = record {
   posted = added seen.posted r.drive.last.posted;
 }
 
--- what the passes of these flows read last, added to these numbers
+-- these numbers plus those that the passes of these flows read last
 abbrev pub sum_from : Seen → List Reader → Seen
 sum_from seen [] = seen
 sum_from seen (r ∷ rs) = sum_from (with_flow seen r) rs
@@ -29,7 +29,7 @@ sum_from seen (r ∷ rs) = sum_from (with_flow seen r) rs
 abbrev pub nothing_seen : Seen
 nothing_seen = record { offered = 0; taken = 0; posted = 0 }
 
--- what was seen of so many frames is shown; how many a second is the clock's to say
+-- the report shows these sums and the number of frames; its rate depends on the clock
 pub record Shows (seen : Seen) (all : ℕ) (s : Shown) : Type 0 where
   pub offered : s.offered ≡ seen.offered
   pub frames : s.frames ≡ all

@@ -1,4 +1,4 @@
--- What leaves a port, as a capture.
+-- The capture of the frames that leave a port.
 use Rattle.std.specs.Prelude.{◌≡◌, ◌⊎◌, ℕ, List, drop, take}
 use Rattle.capture.specs.Writing.{capture_of}
 use Rattle.refusals.specs.declared.errors.CaptureError.TheVariants as errors
@@ -8,11 +8,12 @@ use Rattle.commands.specs.declared.refusal.Refusal.TheVariants as refusal
 use Rattle.flows.specs.declared.report.FlowReport.{FlowReport}
 use Rattle.forward_command.specs.Text.{wires_of}
 
--- the capture of a port out of the reports of so many queue pairs a port: of the frames that `forward` prints, those of the port
+-- a port's capture from a report with `pairs` queue pairs at each port: the frames of that port, in the order of
+-- `forward`
 abbrev pub port_capture : ℕ → ℕ → List FlowReport → List ℕ
 port_capture port pairs flows = capture_of (records_of_port port (wires_of (take pairs flows) (drop pairs flows)))
 
--- no memory, or a frame, counted from 1, that no capture has: for its length, or after too many others
+-- memory is missing, or a frame, counted from 1, does not fit a capture: for its length, or because there are too many
 abbrev pub IsUncaptured : Refusal → Type 0
 IsUncaptured e =
     (e ≡ refusal.Memory) ⊎ ((k : ℕ) × ((e ≡ refusal.Capture (errors.FrameLength k)) ⊎ (e ≡ refusal.Capture (errors.TooMany k))))

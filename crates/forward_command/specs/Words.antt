@@ -1,4 +1,4 @@
--- The words of the two options, and what they tell.
+-- The words of `--capture` and `--wire-capture`, and their meaning.
 use Rattle.std.specs.Prelude.{◌≢◌, ℕ, ◌+◌, ◌<◌, ◌≤◌, List, [], ◌∷◌}
 use Rattle.limits.specs.declared.profile.TheConstants.{MOST_PAIRS, PORTS}
 
@@ -17,7 +17,7 @@ pub record IsSource (s : SourceFile) : Type 0 where
 abbrev pub source_word : SourceFile → List ℕ
 source_word s = (48 + s.port) ∷ 58 ∷ (48 + s.queue) ∷ 61 ∷ s.file
 
--- a file for what leaves a port
+-- a file for the frames that leave a port
 pub record PortFile : Type 0 where
   pub port : ℕ
   pub file : List ℕ
@@ -30,14 +30,14 @@ pub record IsWireFile (w : PortFile) : Type 0 where
 abbrev pub wire_file_word : PortFile → List ℕ
 wire_file_word w = (48 + w.port) ∷ 61 ∷ w.file
 
--- the byte is a digit below a number
+-- the byte is a digit whose value is less than `below`
 abbrev pub IsDigit : ℕ → ℕ → Type 0
 IsDigit below byte = (48 ≤ byte) × (byte < 48 + below)
 
--- a word that doesn't begin with a byte of ASCII
+-- a word that does not begin with an ASCII byte
 abbrev pub NoFirst : List ℕ → Type 0
 NoFirst word = (byte : ℕ) (rest : List ℕ) → byte < 128 → word ≢ byte ∷ rest
 
--- a word that doesn't begin with a digit below a number and this mark
+-- a word that does not begin with a digit less than `below` and this mark
 abbrev pub NoField : ℕ → ℕ → List ℕ → Type 0
 NoField below mark word = (number : ℕ) (rest : List ℕ) → number < below → word ≢ (48 + number) ∷ mark ∷ rest

@@ -1,4 +1,4 @@
-//! What `forward` does to its streams, and the status that it ends with.
+//! Runs `forward` on its streams, and returns its exit status.
 ghost use Rattle.std.specs.Prelude.{◌≡◌, ◌⊎◌, ℕ, List, Some, false, IfErr, OnOk};
 ghost use Rattle.std.specs.Io.KnownBytes.{Keeps};
 ghost use Rattle.commands.specs.declared.answering.TheConstants.{DONE, REFUSED};
@@ -15,8 +15,8 @@ use std::sync::Wait;
 use std::thread::Threads;
 use std::time::Clock;
 
-/// Forwards the script of `input`, and answers an exit status. What came of it goes to `output`, with status 0. A refusal
-/// goes to `faults` as one line, with status 1, as the other commands' do. How far it is goes to `screen`, if it is shown.
+/// Forwards the script of `input`, and returns an exit status. The page goes to `output`, with status 0. A refusal goes
+/// to `faults` as one line, with status 1, as for the other commands. Progress goes to `screen`, if it is shown.
 pub fn answer<
     R: Threads + Wait + Clock + Sync,
     I: Read,
@@ -45,8 +45,8 @@ pub fn answer<
     }
 }
 
-/// Forwards the script of `input`, and prints what came of it. What it refuses before it prints leaves `output` as it was.
-/// A `screen` that fails changes nothing.
+/// Forwards the script of `input`, and prints its page. A refusal other than `Output` leaves `output` unchanged.
+/// A failing `screen` changes nothing.
 pub fn perform<R: Threads + Wait + Clock + Sync, I: Read, W: Write, M: Write + IsTerminal + Send>(
     rt: &R,
     alloc: Global,

@@ -1,19 +1,22 @@
-//! The options `--capture` and `--wire-capture` of `forward`, by which frames come in from captures at a port and a queue,
-//! and what leaves a port becomes a capture.
+//! The options `--capture` and `--wire-capture` of `forward`: frames come in from captures at a port and a queue, and
+//! the frames that leave a port are written as a capture.
 //!
-//! [`source_of`] and [`wire_file_of`] read the words `PORT:QUEUE=FILE` and `PORT=FILE`. [`add_capture`] puts the frames of a
-//! capture behind others, and [`gather`] those of each source's file. [`wire_capture`] makes the capture of a port out of
-//! the reports of the flows. [`perform`] forwards with sources and wire files, and [`answer`] does the same for a caller who
-//! wants an exit status. What the words tell, and what captures and flows make, is exact by contract; no contract can say
-//! what a file has.
+//! [`source_of`] and [`wire_file_of`] parse the words `PORT:QUEUE=FILE` and `PORT=FILE`. [`add_capture`] appends the
+//! frames of one capture, and [`gather`] reads the captures of all sources. [`wire_capture`] builds a port's capture
+//! from the reports of the flows. [`perform`] forwards with sources and wire files, and [`answer`] also prints refusals
+//! and returns an exit status. Parsing and conversion are exact by contract; no contract describes the contents of a
+//! file.
 
 mod answering;
 mod files;
 mod gathering;
+mod identity;
 mod refused;
 mod running;
+mod targets;
 mod wires;
 mod words;
+mod writing;
 
 pub use answering::{answer, perform};
 pub use gathering::{add_capture, gather};

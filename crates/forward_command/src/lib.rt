@@ -1,12 +1,12 @@
-//! The command `forward` of the program `poll82599`, and the commands of captures: a script's frames forwarded between two
-//! ports, from text to text, or those of captures; and `from-capture` and `to-capture` in a pipe.
+//! The commands `forward`, `from-capture` and `to-capture` of the program `poll82599`. It uses `forwarder` for the run,
+//! `wire_script` and `capture` for the formats, and `commands` for refusals and printing. Its contracts pin the printed
+//! page to a report of the given script; a refusal other than `Output` prints nothing.
 //!
-//! [`forward`] makes the text of an input and a configuration: what went onto the wires, as a script's lines, and then a
-//! line of counts a flow, or a JSON object of them ([`Printing`]). [`perform`] prints it, and [`answer`] does the same for a
-//! caller who wants an exit status; [`forward_script`] is for those who have a script. [`progress`] shows how far it is
-//! while it runs. [`captured`] is `forward` with the options `--capture` and `--wire-capture`, and [`piped`] goes between
-//! captures and lines. It stands beside the crate `commands`, whose refusals it answers, so that those commands need no
-//! forwarder.
+//! [`forward`] returns the page for an input and a configuration: the frames of the wires as script lines, then the
+//! counts of each flow as a line or a JSON object ([`Printing`]). [`perform`] prints it, and [`answer`] also prints
+//! refusals and returns an exit status. [`forward_script`] forwards a parsed script. [`progress`] shows the progress of
+//! a run. [`captured`] is `forward` with the options `--capture` and `--wire-capture`, and [`piped`] converts between
+//! captures and script lines.
 #![tactic(auto)]
 
 mod answering;

@@ -8,7 +8,7 @@ use commands::Refusal;
 use controller::Wire;
 use flows::{Ended, FlowReport};
 
-/// How an end is printed.
+/// The printed word for how a flow ended.
 pub(crate) fn word_of(ended: Ended) -> &'static str
     ensures { result.now ≡ ended_word ended }
 {
@@ -18,7 +18,7 @@ pub(crate) fn word_of(ended: Ended) -> &'static str
     }
 }
 
-/// How many bytes went out. They all lie in memory, so that the sum fits.
+/// Number of bytes on the wire. They are all in memory, so the sum cannot overflow.
 fn bytes_of(wire: &Wire) -> usize
     ensures { result ≡ sum_by length wire.now }
 {
@@ -30,7 +30,7 @@ fn bytes_of(wire: &Wire) -> usize
     bytes
 }
 
-/// Writes the object of a flow, which came in at this port and queue, and LF.
+/// Writes the object of the flow that came in at this port and queue, and LF.
 pub(crate) fn write_object(
     text: &mut String,
     port: u8,
@@ -46,7 +46,7 @@ pub(crate) fn write_object(
     write_ended(text, flow)
 }
 
-/// Writes what a flow was offered, and what became of it at its receive ring.
+/// Writes the number of frames offered to a flow, and their fate at its receive ring.
 fn write_offered(text: &mut String, port: u8, queue: u8, flow: &FlowReport) -> Result<(), Refusal>
     ensures members { OnOk result (string_bytes text.new ≡ string_bytes text.old ++ offered_members port queue flow.now) }
     ensures refused { IfErr result (λ e. e ≡ Memory) }
@@ -59,7 +59,7 @@ fn write_offered(text: &mut String, port: u8, queue: u8, flow: &FlowReport) -> R
     Ok(())
 }
 
-/// Writes what the driver of a flow did, how many frames went out, and what was left.
+/// Writes the counts of a flow's driver, and how many frames went out and remained.
 fn write_driven(text: &mut String, flow: &FlowReport) -> Result<(), Refusal>
     ensures members { OnOk result (string_bytes text.new ≡ string_bytes text.old ++ driven_members flow.now) }
     ensures refused { IfErr result (λ e. e ≡ Memory) }
@@ -87,7 +87,7 @@ fn write_directions(text: &mut String, flow: &FlowReport) -> Result<(), Refusal>
     Ok(())
 }
 
-/// Writes how a flow ended, and ends its object.
+/// Writes how a flow ended, and closes its object.
 fn write_ended(text: &mut String, flow: &FlowReport) -> Result<(), Refusal>
     ensures member { OnOk result (string_bytes text.new ≡ string_bytes text.old ++ ended_member flow.now) }
     ensures refused { IfErr result (λ e. e ≡ Memory) }

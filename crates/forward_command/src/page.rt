@@ -1,4 +1,4 @@
-//! A script, read whole, forwarded, and then answered whole.
+//! Forwards a script that is read whole, and returns its page.
 ghost use Rattle.std.specs.Prelude.{◌≡◌, IfErr, IfOk, None, Ok, false};
 ghost use Rattle.std.specs.String.{string_bytes};
 ghost use Rattle.commands.specs.declared.refusal.Refusal.TheVariants as refusal;
@@ -22,11 +22,11 @@ use std::thread::Threads;
 use std::time::Clock;
 use wire_script::{Script, parse};
 
-/// Forwards the script of an input, and answers the text of what came of it. How far it is goes to `screen`, if it is shown.
+/// Forwards the script of an input, and returns the text of its report. Progress goes to `screen`, if it is shown.
 ///
-/// It answers the first that applies of `Input` (or `Memory`) where the input can't be read, the script's first fault or
-/// its want of memory, the forwarder's `Config`, its `Memory` or `Thread`, and `Memory` where the text could not grow. The
-/// input's text is given back before the script is forwarded, and the script before its text is made.
+/// Returns the first refusal that applies: `Input` or `Memory` if the input cannot be read; the script's first fault or
+/// its `Memory`; the forwarder's `Config`, then its `Memory` or `Thread`; and `Memory` if the text cannot be allocated.
+/// The input's text is freed before the run, and the script before the report's text is built.
 pub fn forward<R: Threads + Wait + Clock + Sync, I: Read, M: Write + IsTerminal + Send>(
     rt: &R,
     alloc: Global,
@@ -44,7 +44,7 @@ pub fn forward<R: Threads + Wait + Clock + Sync, I: Read, M: Write + IsTerminal 
     page_for(rt, alloc, config, printing, text, screen, form)
 }
 
-/// What a script's text prints.
+/// Returns the page for a script's text.
 fn page_for<R: Threads + Wait + Clock + Sync, M: Write + Send>(
     rt: &R,
     alloc: Global,
@@ -64,7 +64,7 @@ fn page_for<R: Threads + Wait + Clock + Sync, M: Write + Send>(
     text_of(alloc, report.flows.as_slice(), pairs, printing)
 }
 
-/// The reports of a script's flows. The script is given back.
+/// Forwards a script and frees it.
 pub(crate) fn forwarded<R: Threads + Wait + Clock + Sync, M: Write + Send>(
     rt: &R,
     alloc: Global,
@@ -82,10 +82,10 @@ pub(crate) fn forwarded<R: Threads + Wait + Clock + Sync, M: Write + Send>(
     forwarded
 }
 
-/// Forwards a script, and answers what became of its flows. How far it is goes to `screen` in this form, if it is shown; a
-/// screen that fails changes nothing.
+/// Forwards a script, and returns the reports of its flows. If a form is given, progress goes to `screen` in that form;
+/// a failing screen changes nothing.
 ///
-/// It answers the forwarder's `Config`, else its `Memory` or `Thread`.
+/// Returns the forwarder's `Config`, otherwise its `Memory` or `Thread`.
 pub fn forward_script<R: Threads + Wait + Clock + Sync, M: Write + Send>(
     rt: &R,
     alloc: Global,
@@ -101,7 +101,7 @@ pub fn forward_script<R: Threads + Wait + Clock + Sync, M: Write + Send>(
     Ok(progress::forward(rt, alloc, script, config, &Open, screen, form)?)
 }
 
-/// The script that a text says.
+/// Parses a script.
 pub(crate) fn script_in(alloc: Global, text: Vec<u8>) -> Result<Script, Refusal>
     ensures script { IfOk result (λ script. script_of text.items ≡ Ok script) }
     ensures refused { IfErr result (λ e. (fault : ScriptError) × (e ≡ refusal.Script fault) × Fails fault (script_of text.items)) }

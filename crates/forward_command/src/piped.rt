@@ -1,8 +1,8 @@
-//! The commands `from-capture` and `to-capture`: from a capture to a script's lines, and from the lines of a wire to a
+//! The commands `from-capture` and `to-capture`: they convert a capture to script lines, and the lines of a wire to a
 //! capture.
 //!
-//! [`perform`] reads the input whole, makes of it what a [`CaptureRequest`] asks for and writes that, bytes that need not be
-//! text; [`answer`] does the same for a caller who wants an exit status.
+//! [`perform`] reads the whole input, converts it as a [`CaptureRequest`] asks, and writes the resulting bytes.
+//! [`answer`] also prints refusals and returns an exit status.
 
 mod answering;
 mod flow_lines;

@@ -1,23 +1,24 @@
-//! What of a report is printed, and whether it is shown how far the run is.
+//! How a report is printed, and whether progress is shown.
 ghost use Rattle.std.specs.Prelude.{◌≡◌, None, Some, false, true};
 ghost use Rattle.forward_command.specs.declared.progress.line.Form.TheVariants.{Objects};
 
 use crate::progress::Form;
 
-/// What of a report is printed, and in what form; and whether it is shown how far the run is.
+/// How a report is printed, and whether progress is shown.
 #[derive(Clone, Copy, Debug, Default, PartialEq, Eq)]
 pub struct Printing {
-    /// The frames of the wires are left out.
+    /// Omits the frames of the wires.
     pub quiet: bool,
-    /// The counts of each flow are a JSON object, in place of a line of words.
+    /// Prints the counts of each flow as a JSON object instead of a line of words.
     pub json: bool,
-    /// While it runs, it is shown once a second how far it is, on a stream beside the output: as objects with `json`, else
-    /// as words.
+    /// Shows progress once a second during the run, on a stream other than the output: as JSON objects with `json`,
+    /// otherwise as words.
     pub progress: bool,
 }
 
 impl Printing {
-    /// How it is shown how far a run is, if it is shown. The line of a terminal is written anew.
+    /// The form of the progress, or `None` if it is not shown. Without `json`, a terminal shows one line that is
+    /// rewritten.
     pub fn form(self, on_terminal: bool) -> Option<Form>
         ensures unshown { self.progress ≡ false → result ≡ None }
         ensures objects { self.progress ≡ true → self.json ≡ true → result ≡ Some Objects }

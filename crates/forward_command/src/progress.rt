@@ -1,9 +1,9 @@
-//! How far a forwarding is, shown once a second while it runs.
+//! Shows the progress of a run once a second.
 //!
-//! [`forward`] forwards as [`forwarder::forward`] does, and where a [`Form`] is given, a thread of its own reads the cells of
-//! all flows meanwhile and writes a [`Line`] of what it read, once a second and at last when all is over. What it reads of a
-//! cell was written at one moment, and doesn't fall; a sum over cells is of as many moments as there are cells. The thread
-//! ends with the run. What it writes depends on time alone, and no clause says how often it writes.
+//! [`forward`] forwards as [`forwarder::forward`] does. If a [`Form`] is given, a separate thread reads the counter
+//! cells of all flows and writes a [`Line`] once a second and once at the end of the run. Each cell is read as of one
+//! moment, and its counts never decrease; the cells of different flows are read at different moments. The thread ends
+//! with the run. No contract says how often it writes, which depends on time alone.
 
 mod calls;
 mod line;

@@ -15,13 +15,13 @@ use flows::FlowReport;
 use std::alloc::Global;
 use wire_script::print_line;
 
-/// How many bytes a frame's line has beside its digits: port, queue, two spaces and LF.
+/// Bytes of a frame's line besides its digits: port, queue, two spaces and LF.
 const AROUND_FRAME: usize = 5;
 
-/// Room for the line or the object of a flow: its words, and numbers of up to 20 digits.
+/// Capacity for the line or the object of a flow: its words, and numbers of up to 20 digits.
 const FLOW_LINE: usize = 512;
 
-/// How many bytes the lines of a wire have.
+/// Number of bytes of a wire's lines.
 fn wire_room(wire: &Wire) -> usize {
     let mut room = 0usize;
     for frame in wire.iter() {
@@ -33,7 +33,7 @@ fn wire_room(wire: &Wire) -> usize {
     room
 }
 
-/// Room for the text of these flows.
+/// Capacity for the text of these flows.
 fn room_for(flows: &[FlowReport], quiet: bool) -> usize {
     let mut room = 0usize;
     for flow in flows {
@@ -64,7 +64,7 @@ fn write_wire(
     Ok(())
 }
 
-/// Writes the wires of the flows that go out of a port.
+/// Writes the wires of the flows that leave a port, queues ascending.
 fn write_wires(
     alloc: Global,
     text: &mut String,
@@ -84,7 +84,7 @@ fn write_wires(
     Ok(())
 }
 
-/// Writes the wires of both ports, port 0's first, unless they are left out.
+/// Writes the wires of both ports, port 0's first, unless `quiet` is set.
 fn write_both(
     alloc: Global,
     text: &mut String,
@@ -104,7 +104,7 @@ fn write_both(
     write_wires(alloc, text, 1, from_0)
 }
 
-/// Writes the line of a flow, which came in at this port and queue.
+/// Writes the line of the flow that came in at this port and queue.
 fn write_flow(text: &mut String, port: u8, queue: u8, flow: &FlowReport) -> Result<(), Refusal>
     ensures line { OnOk result (string_bytes text.new ≡ string_bytes text.old ++ flow_line port queue flow.now) }
     ensures refused { IfErr result (λ e. e ≡ Memory) }
@@ -114,7 +114,7 @@ fn write_flow(text: &mut String, port: u8, queue: u8, flow: &FlowReport) -> Resu
     write_ending(text, flow)
 }
 
-/// Writes what a flow was offered, and what became of it at its receive ring.
+/// Writes the number of frames offered to a flow, and their fate at its receive ring.
 fn write_offered(text: &mut String, port: u8, queue: u8, flow: &FlowReport) -> Result<(), Refusal>
     ensures words { OnOk result (string_bytes text.new ≡ string_bytes text.old ++ offered_words port queue flow.now) }
     ensures refused { IfErr result (λ e. e ≡ Memory) }
@@ -127,7 +127,7 @@ fn write_offered(text: &mut String, port: u8, queue: u8, flow: &FlowReport) -> R
     Ok(())
 }
 
-/// Writes what the driver of a flow did.
+/// Writes the counts of a flow's driver.
 fn write_driven(text: &mut String, flow: &FlowReport) -> Result<(), Refusal>
     ensures words { OnOk result (string_bytes text.new ≡ string_bytes text.old ++ driven_words flow.now) }
     ensures refused { IfErr result (λ e. e ≡ Memory) }
@@ -140,7 +140,7 @@ fn write_driven(text: &mut String, flow: &FlowReport) -> Result<(), Refusal>
     Ok(())
 }
 
-/// Writes what went out of a flow, what was left, and how it ended.
+/// Writes how many frames left a flow, how many remained, and how it ended.
 fn write_ending(text: &mut String, flow: &FlowReport) -> Result<(), Refusal>
     ensures words { OnOk result (string_bytes text.new ≡ string_bytes text.old ++ ending_words flow.now) }
     ensures refused { IfErr result (λ e. e ≡ Memory) }
@@ -150,7 +150,7 @@ fn write_ending(text: &mut String, flow: &FlowReport) -> Result<(), Refusal>
     Ok(())
 }
 
-/// Writes the object of a flow, or its line.
+/// Writes the object or the line of a flow.
 fn write_counts(
     text: &mut String,
     json: bool,
@@ -168,7 +168,7 @@ fn write_counts(
     }
 }
 
-/// Writes the objects of the flows that came in at a port, or their lines.
+/// Writes the objects or the lines of the flows that came in at a port.
 fn write_flows(text: &mut String, json: bool, port: u8, flows: &[FlowReport]) -> Result<(), Refusal>
     requires queues { length flows.now ≤ MOST_PAIRS }
     ensures lines { OnOk result (string_bytes text.new ≡ string_bytes text.old ++ flow_texts json port 0 flows.now) }
@@ -182,10 +182,11 @@ fn write_flows(text: &mut String, json: bool, port: u8, flows: &[FlowReport]) ->
     Ok(())
 }
 
-/// The text of a report of so many queue pairs a port: the wires, port 0's first and queues ascending, unless they are left
-/// out, and then a line or an object a flow, those that came in at port 0 first. What came in at a port goes out at the other.
+/// Returns the text of a report with `pairs` queue pairs at each port. It begins with the wires, port 0's first and
+/// queues ascending, unless `printing.quiet` is set. A line or an object for each flow follows, those that came in at
+/// port 0 first. Frames that come in at one port leave at the other.
 ///
-/// Its room is taken once, so that it isn't copied while it grows, and the frames are printed from where they lie.
+/// The text is allocated once, and frames are printed without an intermediate copy. Returns `Memory` if that fails.
 pub fn text_of(
     alloc: Global,
     flows: &[FlowReport],

@@ -15,7 +15,7 @@ completion_of true = Head
 completion_of false = Status
 
 abbrev pub plan_of : Poll82599Plan → QueuePlan
-plan_of p = record { pairs = p.pairs; ring = p.descriptors; enabled = is_set p.enabled; completion = completion_of (is_set p.by_head); shown = record NOTES { json = is_set p.json } }
+plan_of p = record { pairs = p.pairs; ring = p.descriptors; enabled = is_set p.enabled; completion = completion_of (is_set p.by_head); lists = false; shown = record NOTES { json = is_set p.json } }
 
 -- the output of the moves has `needed` bytes
 pub record Prints (plan : QueuePlan) (text : List ℕ) (needed : ℕ) : Type 0 where

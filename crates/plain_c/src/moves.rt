@@ -77,6 +77,7 @@ fn plan_read(plan: &Poll82599Plan) -> QueuePlan
         ring: plan.descriptors,
         enabled: is_set(plan.enabled),
         completion,
+        lists: false,
         shown: Shown {
             json: is_set(plan.json),
             ..NOTES

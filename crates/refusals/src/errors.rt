@@ -327,8 +327,9 @@ impl ScriptError {
 /// The first fault of a capture, with the number of its record, counted from 1; or the lack of memory.
 #[derive(Clone, Copy, Debug, PartialEq, Eq, Error)]
 pub enum CaptureError {
-    /// The first 24 bytes are no header of classic pcap, version 2.4. A pcapng file has none.
-    #[error("not a capture in classic pcap (pcapng is not read)")]
+    /// The file does not begin with a header of classic pcap, version 2.4, or of pcapng, version 1; or a pcapng block is
+    /// damaged.
+    #[error("not a capture in pcap or pcapng")]
     NotCapture,
     /// The link type is not 1 (Ethernet, with no statement about checksums).
     #[error("link type")]

@@ -1,5 +1,5 @@
 -- What `schedules` prints.
-use Rattle.std.specs.Prelude.{◌≡◌, ◌⊎◌, ◌≤◌, ⊤, ℕ, Bool, true, false, List, [], ◌∷◌, ◌++◌, codes, length, Option, Some, All}
+use Rattle.std.specs.Prelude.{◌≡◌, ◌⊎◌, ◌≤◌, ⊤, ℕ, false, List, [], ◌∷◌, ◌++◌, codes, length, Option, None, Some, All}
 use Rattle.std.specs.List.{flat_map}
 use Rattle.std.specs.Io.KnownBytes.{Appends, Keeps}
 use Rattle.ring_machine.specs.Queues.{AreQueues}
@@ -10,14 +10,14 @@ use Rattle.commands.specs.declared.answering.TheConstants.{DONE, REFUSED}
 use Rattle.commands.specs.declared.refusal.Refusal.{Refusal}
 use Rattle.commands.specs.declared.refusal.Refusal.TheVariants as refusal
 use Rattle.commands.specs.declared.replay.QueuePlan.{QueuePlan}
-use Rattle.commands.specs.declared.replay.TheConstants.{NOTES}
+use Rattle.commands.specs.declared.replay.Shown.{Shown}
 use Rattle.schedules.specs.Drawing.{IsDrawn}
 use Rattle.schedules.specs.declared.drawing.Drawn.{Drawn}
 use Rattle.schedule_command.specs.declared.request.ScheduleRequest.{ScheduleRequest}
 
--- the queues that the lists are drawn for, as `replay` makes them
-abbrev pub queues_of : ScheduleRequest → QueuePlan
-queues_of r = record { pairs = r.plan.pairs; ring = r.plan.ring; enabled = r.plan.enabled; completion = r.plan.completion; shown = NOTES }
+-- the queues that the lists are drawn for, as `replay` makes them, and the form of what it prints
+abbrev pub queues_of : ScheduleRequest → Shown → QueuePlan
+queues_of r form = record { pairs = r.plan.pairs; ring = r.plan.ring; enabled = r.plan.enabled; completion = r.plan.completion; lists = false; shown = form }
 
 -- each move on a line of its own
 abbrev pub move_lines : List Drawn → List ℕ
@@ -27,10 +27,10 @@ move_lines l = flat_map (λ d. text_of d.action ++ 10 ∷ []) l
 abbrev pub list_text : List Drawn → List ℕ
 list_text l = move_lines l ++ codes "# end\n"
 
--- what follows a list is what `replay` prints of it, or nothing
-abbrev pub Follows : Bool → QueuePlan → List ℕ → List ℕ → Type 0
-Follows true queues list more = HasPage queues list more
-Follows false queues list more = more ≡ []
+-- what follows a list is what `replay` prints of it in this form, or nothing
+abbrev pub Follows : Option Shown → (Shown → QueuePlan) → List ℕ → List ℕ → Type 0
+Follows (Some form) queues list more = HasPage (queues form) list more
+Follows None queues list more = more ≡ []
 
 -- a list that was drawn as is asked for, and what follows it
 pub record IsPrinted (r : ScheduleRequest) (text : List ℕ) : Type 0 where
@@ -49,7 +49,7 @@ NotDrawn r e = ⊥
 
 -- why it was not printed: it was not drawn, or `replay` refuses its text
 abbrev pub NotPrinted : ScheduleRequest → Refusal → Type 0
-NotPrinted r e = NotDrawn r e ⊎ ((l : List Drawn) × IsDrawn r.plan l × RefusesReplay (queues_of r) (Some (list_text l)) e)
+NotPrinted r e = NotDrawn r e ⊎ ((form : Shown) × (l : List Drawn) × IsDrawn r.plan l × RefusesReplay (queues_of r form) (Some (list_text l)) e)
 
 -- the texts, one behind another
 abbrev pub joined : List (List ℕ) → List ℕ

@@ -5,20 +5,21 @@ ghost use Rattle.ring_machine.specs.Queues.{AreQueues};
 ghost use Rattle.schedule_command.specs.Lists.{IsPrinted, NotPrinted, list_text, queues_of};
 
 use crate::request::ScheduleRequest;
-use commands::{NOTES, QueuePlan, Refusal, replay_text};
+use commands::{QueuePlan, Refusal, Shown, replay_text};
 use schedules::{Drawn, draw};
 use std::alloc::{AllocError, Global};
 
 // The queues that the moves are replayed on.
-fn queues_of(request: &ScheduleRequest) -> QueuePlan
-    ensures { result ≡ queues_of request.now }
+fn queues_of(request: &ScheduleRequest, shown: Shown) -> QueuePlan
+    ensures { result ≡ queues_of request.now shown }
 {
     QueuePlan {
         pairs: request.plan.pairs,
         ring: request.plan.ring,
         enabled: request.plan.enabled,
         completion: request.plan.completion,
-        shown: NOTES,
+        lists: false,
+        shown,
     }
 }
 
@@ -51,8 +52,9 @@ pub(crate) fn list_of(
         u64::from(number),
     )?;
     let mut text = text_of(alloc, drawn.as_slice())?;
-    if request.expect {
-        let expected = replay_text(alloc, queues_of(request), &mut text.as_bytes())?;
+    if let Some(shown) = request.expect {
+        let queues = queues_of(request, shown);
+        let expected = replay_text(alloc, queues, &mut text.as_bytes())?;
         text.push_str(expected.as_str())?;
     }
     Ok(text)

@@ -41,7 +41,7 @@ const LINES: &[(Form, &str, &str)] = &[
     ),
 ];
 
-/// Each form, bytes that are not in it, and why.
+/// Each form, bytes that do not have it, and why.
 const REFUSED: &[(Form, &str, &str)] = &[
     // DTYP 2, which is a context descriptor
     (
@@ -49,7 +49,7 @@ const REFUSED: &[(Form, &str, &str)] = &[
         "00280000000000003c00202b00000f00",
         "refused 3 type\n",
     ),
-    // a write-back of no bytes
+    // a write-back with length 0
     (
         ("rx", "back"),
         "00000000000000000300000000000000",
@@ -84,7 +84,7 @@ const NEVER: &[(&str, &str)] = &[
     ("0x000000000000000000000001000000", "refused 81 hex\n"),
 ];
 
-/// `decode` of these digits in this form comes to this.
+/// `decode` of these digits in this form has this output and these faults.
 fn decodes<R: Host>(
     rt: &R,
     alloc: Global,

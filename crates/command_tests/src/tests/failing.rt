@@ -1,4 +1,4 @@
-//! Runs on streams that fail.
+//! Runs on failing streams.
 
 use crate::tests::runs::{Host, refusal_of, text_of};
 use crate::tests::streams::{Broken, Narrow, Unflushed};
@@ -6,7 +6,7 @@ use crate::tests::wanted::{holds, same};
 use std::alloc::Global;
 use std::io::{Read, Write};
 
-/// A run with these streams is refused so.
+/// A run with these streams is refused with this line.
 pub fn is_refused<R: Host, I: Read, W: Write>(
     rt: &R,
     alloc: Global,
@@ -22,7 +22,7 @@ pub fn is_refused<R: Host, I: Read, W: Write>(
 
 const NO_OUTPUT: &str = "refused 84 output\n";
 
-/// An output with so much room has a beginning of what the run writes.
+/// An output with room for `room` bytes gets the beginning of what the run writes.
 fn has_beginning<R: Host>(
     rt: &R,
     alloc: Global,
@@ -35,8 +35,8 @@ fn has_beginning<R: Host>(
     same(rt, Some(output.taken.as_slice()), whole.get(..room));
 }
 
-/// The run is refused with an output of each of these rooms, of one byte less than it writes, and of one that fails where it
-/// is flushed.
+/// The run is refused with an output of each of these rooms, with room for all but one byte, and with one that fails to
+/// flush.
 pub fn each_beginning<R: Host>(
     rt: &R,
     alloc: Global,
@@ -53,7 +53,7 @@ pub fn each_beginning<R: Host>(
     is_refused(rt, alloc, words, &mut input, &mut Unflushed, NO_OUTPUT)
 }
 
-/// A run on an input that gives this and then fails is refused, and writes nothing.
+/// A run on an input that yields these bytes and then fails is refused, and writes nothing.
 fn is_cut<R: Host>(rt: &R, alloc: Global, words: &[&str], left: &'static [u8]) {
     let mut output = Vec::new(alloc);
     let mut input = Broken { left };
@@ -62,7 +62,7 @@ fn is_cut<R: Host>(rt: &R, alloc: Global, words: &[&str], left: &'static [u8]) {
     holds(rt, output.is_empty());
 }
 
-/// The same of each of these words and inputs.
+/// The same for each of these words and inputs.
 pub fn each_cut<R: Host>(rt: &R, alloc: Global, rows: &[(&[&str], &'static [u8])]) {
     for (words, left) in rows {
         is_cut(rt, alloc, words, left);

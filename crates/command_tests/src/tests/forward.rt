@@ -1,6 +1,7 @@
-//! The command `forward`, captures beside it, and what is shown meanwhile.
+//! The command `forward`, its captures, and its progress.
 //!
-//! Most are tables of rows, a run with all that it has to come to, which `crate::tests::told`, `captured` and `crate::tests::failing` walk.
+//! Most tests are tables whose rows give a run and its expected output. `crate::tests::told`, `captured` and
+//! `crate::tests::failing` check them.
 
 mod capture_streams;
 mod capture_words;

@@ -4,7 +4,7 @@ use crate::tests::runs::Host;
 use crate::tests::told::{comes_to_text, times};
 use std::alloc::{AllocError, Global};
 
-/// What `once` has to refuse.
+/// Digits that `once` refuses, and why.
 const REFUSED: &[(&str, &str)] = &[
     ("000102030405060708090a0b0c", "refused 41 frame length\n"),
     ("", "refused 41 frame length\n"),
@@ -14,7 +14,7 @@ const REFUSED: &[(&str, &str)] = &[
     ("0x0102030405060708090a0b0c0d", "refused 81 hex\n"),
 ];
 
-/// Digits and the line that they come out in.
+/// Digits and their line.
 const PASSED: &[(&str, &str)] = &[
     (
         "000102030405060708090a0b0c0d",
@@ -26,7 +26,7 @@ const PASSED: &[(&str, &str)] = &[
     ),
 ];
 
-/// How many bytes a long frame has, and why it is refused; where it isn't, its digits come out and nothing else.
+/// The length of a long frame, and why it is refused. Otherwise its digits are printed, and nothing else.
 const LONG: &[(usize, &str)] = &[
     (2_048, ""),
     (2_049, ""),
@@ -35,7 +35,7 @@ const LONG: &[(usize, &str)] = &[
     (14_337, "refused 41 frame length\n"),
 ];
 
-/// `once` on these digits comes to this.
+/// `once` on these digits has this output and these faults.
 fn passes<R: Host>(rt: &R, alloc: Global, digits: &str, wanted: (&str, &str)) {
     let words = ["once", digits];
     comes_to_text(rt, alloc, words.as_slice(), "", wanted)
@@ -55,7 +55,7 @@ fn digits_of_no_frame_are_refused(rt: HostRuntime) {
     }
 }
 
-/// The digits of a frame of so many bytes, of which byte i is i modulo 251.
+/// The digits of a frame of `len` bytes, where byte i is i modulo 251.
 fn digits_of(alloc: Global, len: usize) -> Result<String, AllocError> {
     let mut bytes = Vec::with_capacity(alloc, len)?;
     for i in 0..len {
@@ -64,7 +64,7 @@ fn digits_of(alloc: Global, len: usize) -> Result<String, AllocError> {
     hex::encode(alloc, bytes.as_slice())
 }
 
-/// A frame of so many bytes is passed, or refused with these faults.
+/// A frame of `len` bytes is passed, or refused with these faults.
 fn passes_long<R: Host>(rt: &R, alloc: Global, len: usize, faults: &str) {
     let digits = digits_of(alloc, len).expect(rt, "memory");
     if !faults.is_empty() {

@@ -1,6 +1,7 @@
-//! The command `replay`: transcripts of lists of moves, and lists that are refused or long.
+//! The command `replay`: transcripts of lists of moves, refused lists and long lists.
 
 mod drawn;
+mod fresh;
 mod lists;
 mod objects;
 mod registers;

@@ -1,4 +1,4 @@
-//! Runs of the program, and what they came to.
+//! Runs of the program, and their results.
 
 use crate::tests::streams::Screen;
 use command_line::run;
@@ -11,17 +11,17 @@ use std::sync::Wait;
 use std::thread::Threads;
 use std::time::Clock;
 
-/// What a run of the program takes of the system, and a test to end.
+/// What a run of the program needs from the system, and what a test needs to abort.
 pub trait Host: Abort + Threads + Wait + Clock + Sync + Files {}
 
 impl<R: Abort + Threads + Wait + Clock + Sync + Files> Host for R {}
 
-/// The text that these bytes are, or one that says that they are none.
+/// These bytes as text, or a text that says that they are not UTF-8.
 pub fn text_of(bytes: &[u8]) -> &str {
     str::from_utf8(bytes).unwrap_or("(this is no UTF-8)")
 }
 
-/// What a run came to: its status, and what it wrote to the output, to the faults and on the screen.
+/// The result of a run: its status, and the bytes written to the output, the faults and the screen.
 #[derive(Drop)]
 pub struct Told {
     pub status: u8,
@@ -62,7 +62,7 @@ pub fn status_of<R: Host, I: Read, W: Write, E: Write>(
     Ok(run(rt, alloc, given.as_slice(), input, output, faults, screen))
 }
 
-/// What a run on these words, this input and this screen comes to.
+/// The result of a run on these words, this input and this screen.
 pub fn outcome_on<R: Host, I: Read>(
     rt: &R,
     alloc: Global,
@@ -88,7 +88,7 @@ pub fn outcome_on<R: Host, I: Read>(
     })
 }
 
-/// The same with no terminal.
+/// The same without a terminal.
 pub fn told_by<R: Host, I: Read>(
     rt: &R,
     alloc: Global,
@@ -98,7 +98,7 @@ pub fn told_by<R: Host, I: Read>(
     outcome_on(rt, alloc, words, input, Screen::new(alloc, false))
 }
 
-/// The same of an input that has these bytes.
+/// The same for an input with these bytes.
 pub fn outcome_of<R: Host>(
     rt: &R,
     alloc: Global,
@@ -108,7 +108,7 @@ pub fn outcome_of<R: Host>(
     told_by(rt, alloc, words, &mut input)
 }
 
-/// The status and the faults of a run on these words, this input and this output, with no terminal.
+/// The status and the faults of a run on these words, this input and this output, without a terminal.
 pub fn refusal_of<R: Host, I: Read, W: Write>(
     rt: &R,
     alloc: Global,
@@ -122,7 +122,7 @@ pub fn refusal_of<R: Host, I: Read, W: Write>(
     Ok((status, faults))
 }
 
-/// Whether a page has lines, begins so, and has this text.
+/// Whether a page consists of lines, begins with `begins`, and contains `text`.
 pub fn is_page(page: &str, begins: &str, text: &str) -> bool {
     page.starts_with(begins) && page.contains(text) && page.ends_with("\n")
 }

@@ -9,7 +9,7 @@ use std::alloc::Global;
 const LISTS: &str =
     "r0 A1 50788\nt0 B1 4685 14 0 0 31\nt0 B1 44665 17 1 1 31\nt0 B7\n# end\nt0 B1 13746 22 1 1 22\nt0 B1 31314 1187 0 0 1243\nr0 A1 16182\nt0 B7\n# end\n";
 
-/// Words behind a seed and four moves, and what they come to.
+/// Words after a seed and four moves, and their output and faults.
 const ROWS: &[(&[&str], (&str, &str))] = &[
     (&["--count", "2"], (LISTS, "")),
     (&["--count", "0"], ("", "")),
@@ -20,7 +20,7 @@ const ROWS: &[(&[&str], (&str, &str))] = &[
 
 const BEGIN: &[&str] = &["schedules", "--seed", "1", "--moves", "4"];
 
-/// With these words behind the beginning a run comes to this.
+/// With these words after the first ones, a run has this output and these faults.
 fn goes_on<R: Host>(rt: &R, alloc: Global, more: &[&str], wanted: (&str, &str)) {
     let mut words = Vec::new(alloc);
     words.extend_from_slice(BEGIN).expect(rt, "memory");
@@ -37,7 +37,7 @@ fn lists_and_refusals(rt: HostRuntime) {
 
 const EXPECT: &[&str] = &["schedules", "--seed", "1", "--moves", "4", "--expect"];
 
-/// What is printed behind a list is what `replay` prints of it.
+/// The expected text after a list is the output of `replay`.
 fn is_expected<R: Host>(rt: &R, alloc: Global, list: &str, whole: &str) {
     let page = outcome_of(rt, alloc, &["replay"], list.as_bytes()).expect(rt, "a run");
     same(rt, whole.strip_prefix(list), Some(page.text()));
@@ -51,7 +51,7 @@ fn what_is_expected_is_what_replay_prints(rt: HostRuntime) {
     is_expected(&rt, rt.alloc(), list.text(), whole.text())
 }
 
-/// The first list of those that together meet all that silicon's moves meet: of a pair, and by no move before its own.
+/// The first list that covers silicon's moves: it meets a pair with its own move alone.
 const FIRST: &str = "# r0 A4 driver On controller serving: not enabled\nr0 A4\n# end\n";
 
 const COVER: &[&str] = &["schedules", "--cover", "--device-only-real"];

@@ -1,4 +1,4 @@
-//! The search over a queue's states.
+//! The search over the states of a queue.
 
 mod search_tests;
 mod second;

@@ -1,4 +1,4 @@
-//! Streams that fail, and want of memory.
+//! Failing streams and allocations.
 
 use crate::tests::failing::{each_cut, is_refused};
 use crate::tests::runs::{Host, status_of};
@@ -22,7 +22,7 @@ const LONG: &[&[&str]] = &[
     &["--help"],
 ];
 
-/// Words and the status that they end with, whatever becomes of the faults.
+/// Words and their exit status, whether or not the faults can be written.
 const STATUSES: &[(&[&str], u8)] = &[
     (&["decode", "rx", "back", RX_BACK], 0),
     (&["decode", "rx", "back", "0"], 1),
@@ -37,7 +37,7 @@ const MOVES: &str = "r0 A2\nr0 A2\nr0 A2\n";
 
 const NO_OUTPUT: &str = "refused 84 output\n";
 
-/// With so much room the output is refused, and full.
+/// With room for `room` bytes, the output is refused, and full.
 fn is_full<R: Host>(rt: &R, alloc: Global, words: &[&str], room: usize) {
     let mut output = Narrow::new(alloc, room);
     is_refused(
@@ -51,7 +51,7 @@ fn is_full<R: Host>(rt: &R, alloc: Global, words: &[&str], room: usize) {
     same(rt, (words, output.taken.len()), (words, room));
 }
 
-/// An output that takes too little, or fails where it is flushed, is refused.
+/// An output that takes too little, or fails to flush, is refused.
 fn each_output_is_refused<R: Host>(rt: &R, alloc: Global, words: &[&str]) {
     for room in [0, 1, 27, 28] {
         is_full(rt, alloc, words, room);
@@ -73,7 +73,7 @@ fn an_output_that_fails_is_refused(rt: HostRuntime) {
     }
 }
 
-/// With so much room for the faults the status is this.
+/// With room for `room` bytes of faults, the status is this.
 fn has_status<R: Host>(rt: &R, alloc: Global, words: &[&str], room: usize, status: u8) {
     let (mut output, mut faults) = (Vec::new(alloc), Narrow::new(alloc, room));
     let mut screen = Screen::new(alloc, false);
@@ -98,7 +98,7 @@ fn faults_that_fail_change_no_status(rt: HostRuntime) {
     }
 }
 
-/// A list that breaks off behind a faulty line.
+/// A list that breaks off after a faulty line.
 const CUT: &[(&[&str], &[u8])] = &[(&["replay"], b"r0 A2\nr0 A9\n")];
 
 #[test]
@@ -113,6 +113,7 @@ fn want_of_memory(rt: HostRuntime) {
         ring: 8,
         enabled: true,
         completion: Completion::Status,
+        lists: false,
         shown: NOTES,
     };
     let mut input = "r0 A1 5\nt0 B2\n".as_bytes();

@@ -1,10 +1,10 @@
-//! Inputs and outputs that fail, and a screen.
+//! Failing inputs and outputs, and a screen.
 
 use std::alloc::Global;
 use std::io;
 use std::io::{ErrorKind, IsTerminal, Read, Write};
 
-/// A stream that gives these bytes, and then fails.
+/// An input that yields these bytes, and then fails.
 #[derive(Drop)]
 pub struct Broken {
     pub left: &'static [u8],
@@ -22,10 +22,10 @@ impl Read for Broken {
     }
 }
 
-/// How many bytes a stream in pieces gives or takes at once.
+/// Number of bytes that a stream in pieces reads or writes at once.
 pub const PIECE: usize = 100;
 
-/// A stream that gives its bytes in pieces, of which only so many can be read.
+/// An input that yields its bytes in pieces, and fails after a given number of them.
 #[derive(Drop)]
 pub struct Halting<'a> {
     pub left: &'a [u8],
@@ -45,17 +45,17 @@ impl<'a> Read for Halting<'a> {
     }
 }
 
-/// A stream that takes so many bytes, and then fails.
+/// An output that takes a given number of bytes, and then fails.
 #[derive(Drop)]
 pub struct Narrow {
     room: usize,
-    /// How many it takes at once.
+    /// The most bytes that it takes at once.
     most: usize,
     pub taken: Vec<u8>,
 }
 
 impl Narrow {
-    /// It takes what there is room for at once.
+    /// An output of `room` bytes, which it takes at once.
     pub fn new(alloc: Global, room: usize) -> Narrow {
         Narrow {
             room,
@@ -64,7 +64,7 @@ impl Narrow {
         }
     }
 
-    /// It takes so many pieces, one at a time.
+    /// An output of `pieces` pieces, which it takes one at a time.
     pub fn of_pieces(alloc: Global, pieces: usize) -> Narrow {
         Narrow {
             room: pieces.saturating_mul(PIECE),
@@ -90,7 +90,7 @@ impl Write for Narrow {
     }
 }
 
-/// A stream that takes all bytes, and fails where it is flushed.
+/// An output that takes all bytes, and fails to flush.
 #[derive(Drop)]
 pub struct Unflushed;
 
@@ -104,7 +104,7 @@ impl Write for Unflushed {
     }
 }
 
-/// A screen, which is a terminal or is none.
+/// A screen that may be a terminal.
 #[derive(Drop)]
 pub struct Screen {
     pub shown: Vec<u8>,

@@ -1,4 +1,4 @@
-//! What runs of the program on words and an input have to come to.
+//! Checks runs of the program on words and an input.
 
 use crate::tests::runs::{Host, is_page, text_of, told_by};
 use crate::tests::streams::Broken;
@@ -8,7 +8,7 @@ use std::alloc::{AllocError, Global};
 use std::io::Read;
 use std::process::Abort;
 
-/// A run, and what it has to come to, to the byte.
+/// A run and its expected output, to the byte.
 #[derive(Clone, Copy)]
 pub struct Row {
     pub words: &'static [&'static str],
@@ -17,8 +17,8 @@ pub struct Row {
     pub faults: &'static str,
 }
 
-/// A run on these words and this input comes to this output and these faults, and nothing is shown. Its status is 1 where
-/// there are faults.
+/// A run on these words and this input has this output and these faults, and shows nothing. Its status is 1 if there
+/// are faults.
 pub fn comes_to<R: Host, I: Read>(
     rt: &R,
     alloc: Global,
@@ -36,7 +36,7 @@ pub fn comes_to<R: Host, I: Read>(
     );
 }
 
-/// The same of texts.
+/// The same for texts.
 pub fn comes_to_text<R: Host>(
     rt: &R,
     alloc: Global,
@@ -53,7 +53,7 @@ pub fn comes_to_text<R: Host>(
     )
 }
 
-/// Each row comes to its output and its faults.
+/// Each row has its output and its faults.
 pub fn each_comes_to<R: Host>(rt: &R, alloc: Global, rows: &[Row]) {
     for row in rows {
         comes_to_text(rt, alloc, row.words, row.input, (row.output, row.faults));
@@ -63,14 +63,14 @@ pub fn each_comes_to<R: Host>(rt: &R, alloc: Global, rows: &[Row]) {
 /// A page of text.
 #[derive(Clone, Copy)]
 pub enum Page {
-    /// Help on the output, of a run that ends well.
+    /// Help on the output, with status 0.
     Help,
-    /// What is wrong with the words, on the faults.
+    /// An error of the command line, on the faults.
     Mistake,
 }
 
-/// A run on these words prints this page with this text, and nothing else. It reads nothing: its input is a faulty script that
-/// breaks off, and no move.
+/// A run on these words prints this page with this text, and nothing else. It does not read its input, which is neither
+/// a move nor a valid script, and fails.
 fn has_page<R: Host>(rt: &R, alloc: Global, page: Page, words: &[&str], text: &str) {
     let told = told_by(rt, alloc, words, &mut Broken { left: b"2 0 00\n" }).expect(rt, "a run");
     let (status, begins, told_text, other) = match page {
@@ -90,21 +90,21 @@ fn has_page<R: Host>(rt: &R, alloc: Global, page: Page, words: &[&str], text: &s
     );
 }
 
-/// Each of these words has its page, with its text.
+/// Each of these runs prints a page with its text.
 pub fn each_has_page<R: Host>(rt: &R, alloc: Global, page: Page, rows: &[(&[&str], &str)]) {
     for (words, text) in rows {
         has_page(rt, alloc, page, words, text);
     }
 }
 
-/// A refusal has this line.
+/// A refusal is printed as this line.
 pub fn has_line<R: Abort>(rt: &R, alloc: Global, refusal: Refusal, line: &str) {
     let mut faults = Vec::new(alloc);
     let status = refuse(&mut faults, refusal);
     same(rt, (status, faults.as_slice()), (REFUSED, line.as_bytes()));
 }
 
-/// All of these texts, one behind another.
+/// Joins these texts.
 pub fn joined(alloc: Global, texts: &[&str]) -> Result<String, AllocError> {
     let mut text = String::new(alloc);
     for part in texts {
@@ -113,7 +113,7 @@ pub fn joined(alloc: Global, texts: &[&str]) -> Result<String, AllocError> {
     Ok(text)
 }
 
-/// So many copies of a text, and then an end.
+/// Returns `count` copies of a text, followed by `end`.
 pub fn times(alloc: Global, text: &str, count: usize, end: &str) -> Result<String, AllocError> {
     let mut many = String::new(alloc);
     for _ in 0..count {

@@ -1,10 +1,10 @@
-//! Words that ask for help, and words that are wrong.
+//! Words that ask for help, and mistaken words.
 
 use crate::tests::told::{Page, Row, each_comes_to, each_has_page, has_line};
 use buffer_pool::PoolError;
 use commands::Refusal::{
     self, Descriptor, FileNotRead, FileNotWritten, FrameLength, Hex, Input, Machine, Output, Ring,
-    Stock,
+    SameFile, Stock,
 };
 use descriptor::DescError;
 use ring_machine::MachineError;
@@ -22,15 +22,23 @@ const REPLAY: &str = "echo 'r0 A1 5' | poll82599 replay --ring 16\n";
 
 const SCHEDULES: &str = "poll82599 schedules --seed 1 --moves 4\n";
 
+const RECOMMENDED: &str = "they found 5; the\n  recommended lists (--recommended,";
+
 const COVER: &str = "poll82599 schedules --cover --device-only-real";
 
-/// What is told where an option for drawn lists stands beside `--cover`.
-const NOT_DRAWN: &str = "--cover draws no lists";
+/// The error for an option of drawn lists together with `--cover`.
+const NOT_DRAWN: &str = "--cover cannot be combined with";
 
-/// What is told where pictures can't be read, or stand beside objects.
-const NOT_SHOWN: &str = "--picture stands alone or as --picture=last";
+/// The error for an option of other drawn lists together with `--recommended`.
+const NOT_CHOSEN: &str = "--recommended cannot be combined with";
 
-/// Words that ask for help, and the example that it has to have.
+/// The error for the form of the expected output without that output.
+const NOT_EXPECTED: &str = "--json and --registers need --expect";
+
+/// The error for a malformed `--picture`, or for `--picture` together with `--json`.
+const NOT_SHOWN: &str = "--picture takes no value, or each or last";
+
+/// Words that ask for help, and an example that it must contain.
 const HELPED: &[(&[&str], &str)] = &[
     (&["--help"], ONCE),
     (&["--help"], DECODE),
@@ -52,9 +60,11 @@ const HELPED: &[(&[&str], &str)] = &[
     (&["help", "schedules"], SCHEDULES),
     (&["--help"], COVER),
     (&["schedules", "--help"], COVER),
+    (&["schedules", "--help"], RECOMMENDED),
+    (&["replay", "--help"], "--lists"),
 ];
 
-/// Words that are wrong, and what has to be told of them.
+/// Mistaken words, and a text that the error must contain.
 const WRONG: &[(&[&str], &str)] = &[
     (&[], ""),
     (&["twice"], "twice"),
@@ -100,7 +110,22 @@ const WRONG: &[(&[&str], &str)] = &[
     (&["schedules", "--cover", "--pairs", "1"], NOT_DRAWN),
     (&["schedules", "--cover", "--off"], NOT_DRAWN),
     (&["schedules", "--cover", "--refused", "0"], NOT_DRAWN),
+    (&["schedules", "--cover", "--recommended"], NOT_DRAWN),
     (&["schedules", "--cover", "--cover"], "--cover"),
+    (&["schedules", "--recommended", "--seed", "1"], NOT_CHOSEN),
+    (&["schedules", "--moves", "4", "--recommended"], NOT_CHOSEN),
+    (&["schedules", "--recommended", "--count", "4"], NOT_CHOSEN),
+    (
+        &["schedules", "--recommended", "--refused", "10"],
+        NOT_CHOSEN,
+    ),
+    (&["schedules", "--recommended", "--json"], NOT_EXPECTED),
+    (&["schedules", "--cover", "--registers"], NOT_EXPECTED),
+    (
+        &["schedules", "--seed", "1", "--moves", "1", "--json"],
+        NOT_EXPECTED,
+    ),
+    (&["replay", "--lists", "--lists"], "--lists"),
 ];
 
 /// Each refusal, and its line.
@@ -131,6 +156,7 @@ const LINES: &[(Refusal, &str)] = &[
     (Output, "refused 84 output\n"),
     (FileNotRead, "refused 85 file not read\n"),
     (FileNotWritten, "refused 86 file not written\n"),
+    (SameFile, "refused 87 same file\n"),
 ];
 
 #[test]

@@ -1,19 +1,32 @@
 //! Files, read and written whole.
 ghost use Rattle.std.specs.Prelude.{◌≡◌, ◌⊎◌, IfErr};
 ghost use Rattle.commands.specs.declared.refusal.Refusal.TheVariants as refusal;
+ghost use Rattle.forward_command.specs.CaptureForwards.{IsLost};
 
 use commands::{Refusal, read_text};
 use std::alloc::Global;
 use std::fs;
-use std::fs::File;
-use std::io::Write;
+use std::fs::{File, Metadata, OpenOptions};
+use std::io::{ErrorKind, Write};
+use std::os::unix::fs::MetadataExt;
 use std::rt::Files;
 
-/// All bytes of a file. It answers `FileNotRead` where they can't be read, and `Memory` where there was none for them.
+/// How many names are tried for a file beside another.
+const MOST_PARTS: u32 = 1_000;
+
+/// The name of standard input among files.
+const INPUT: &str = "/dev/stdin";
+
+/// The path of a source's file, where `-` is standard input.
+pub fn source_path(file: &str) -> &str {
+    if file == "-" { INPUT } else { file }
+}
+
+/// All bytes of a source's file. It answers `FileNotRead` where they can't be read, and `Memory` where there was none for them.
 pub fn read_file<R: Files>(rt: &R, alloc: Global, file: &str) -> Result<Vec<u8>, Refusal>
     ensures { IfErr result (λ e. (e ≡ refusal.FileNotRead) ⊎ (e ≡ refusal.Memory)) }
 {
-    let mut opened = File::open(rt, file).map_err(|_| Refusal::FileNotRead)?;
+    let mut opened = File::open(rt, source_path(file)).map_err(|_| Refusal::FileNotRead)?;
     match read_text(alloc, &mut opened) {
         Ok(bytes) => Ok(bytes),
         Err(Refusal::Memory) => Err(Refusal::Memory),
@@ -21,21 +34,95 @@ pub fn read_file<R: Files>(rt: &R, alloc: Global, file: &str) -> Result<Vec<u8>,
     }
 }
 
-/// Writes a file of these bytes, in place of what stood there.
-pub fn write_file<R: Files>(rt: &R, file: &str, bytes: &[u8]) -> Result<(), Refusal>
-    ensures { IfErr result (λ e. e ≡ refusal.FileNotWritten) }
+/// Writes these bytes to a new file beside this path, with the owner and the permissions of the old file, if there is one,
+/// and answers the new file's name. After a refusal it is removed.
+pub fn write_part<R: Files>(
+    rt: &R,
+    alloc: Global,
+    path: &str,
+    old: Option<&Metadata>,
+    bytes: &[u8],
+) -> Result<String, Refusal>
+    ensures { IfErr result IsLost }
 {
-    let mut created = File::create(rt, file).map_err(|_| Refusal::FileNotWritten)?;
-    created
-        .write_all(bytes)
-        .map_err(|_| Refusal::FileNotWritten)
+    let (part, mut file) = new_part(rt, alloc, path)?;
+    if let Some(old) = old {
+        let _ = rt.chown(part.as_str(), Some(old.uid()), Some(old.gid()));
+        let _ = fs::set_permissions(rt, part.as_str(), old.permissions());
+    }
+    if file.write_all(bytes).is_err() {
+        remove(rt, part.as_str());
+        return Err(Refusal::FileNotWritten);
+    }
+    Ok(part)
 }
 
-/// Gives a file another name, in place of what stood there.
+/// Makes a file beside this path, under a name that no other file has.
+fn new_part<R: Files>(rt: &R, alloc: Global, path: &str) -> Result<(String, R::File), Refusal>
+    ensures { IfErr result IsLost }
+{
+    for number in 0..MOST_PARTS {
+        let part = format!(in alloc; "{path}.{number}.part")?;
+        match File::create_new(rt, part.as_str()) {
+            Ok(file) => return Ok((part, file)),
+            Err(error) if error.kind() == ErrorKind::AlreadyExists => {}
+            Err(_) => return Err(Refusal::FileNotWritten),
+        }
+    }
+    Err(Refusal::FileNotWritten)
+}
+
+/// Whether the old file can be replaced by this part: it has no other name, and the part has its owner and permissions.
+pub fn is_kept_by<R: Files>(rt: &R, part: &str, old: &Metadata) -> bool {
+    match fs::metadata(rt, part) {
+        Ok(new) => {
+            old.nlink() == 1
+                && new.uid() == old.uid()
+                && new.gid() == old.gid()
+                && new.mode() == old.mode()
+        }
+        Err(_) => false,
+    }
+}
+
+/// Writes these bytes into a FIFO, a device or a socket.
+pub fn write_into<R: Files>(rt: &R, file: &str, bytes: &[u8]) -> Result<(), Refusal>
+    ensures { IfErr result (λ e. e ≡ refusal.FileNotWritten) }
+{
+    put(rt, OpenOptions::new().write(true), file, bytes)
+}
+
+/// Writes these bytes into a regular file in place of what it has.
+pub fn overwrite<R: Files>(rt: &R, file: &str, bytes: &[u8]) -> Result<(), Refusal>
+    ensures { IfErr result (λ e. e ≡ refusal.FileNotWritten) }
+{
+    put(
+        rt,
+        OpenOptions::new().write(true).truncate(true),
+        file,
+        bytes,
+    )
+}
+
+/// Opens a file that is there, and writes these bytes.
+fn put<R: Files>(rt: &R, how: &OpenOptions, file: &str, bytes: &[u8]) -> Result<(), Refusal>
+    ensures { IfErr result (λ e. e ≡ refusal.FileNotWritten) }
+{
+    let mut opened = how.open(rt, file).map_err(|_| Refusal::FileNotWritten)?;
+    opened.write_all(bytes).map_err(|_| Refusal::FileNotWritten)
+}
+
+/// Gives a file another name, in place of what stood there. A file that can't be renamed is removed.
 pub fn rename<R: Files>(rt: &R, from: &str, to: &str) -> Result<(), Refusal>
     ensures { IfErr result (λ e. e ≡ refusal.FileNotWritten) }
 {
-    fs::rename(rt, from, to).map_err(|_| Refusal::FileNotWritten)
+    match fs::rename(rt, from, to) {
+        Ok(()) => Ok(()),
+        Err(_) => {
+            remove(rt, from);
+            Err(Refusal::FileNotWritten)
+        }
+    }
 }
 
 /// Removes a file, if that can be done.

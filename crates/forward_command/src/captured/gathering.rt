@@ -1,4 +1,4 @@
-//! The frames of captures.
+//! Reads the frames of captures.
 ghost use Rattle.std.specs.Prelude.{◌≡◌, ◌++◌, ◌<◌, ◌≤◌, ℕ, List, length, Ok, IfErr, IfOk, OnOk};
 ghost use Rattle.capture.specs.CaptureError.{Fails};
 ghost use Rattle.refusals.specs.declared.errors.CaptureError.TheVariants.{Memory};
@@ -17,11 +17,11 @@ use std::alloc::{AllocError, Global};
 use std::rt::Files;
 use wire_script::{Script, WireFrame};
 
-/// Puts the frames of a capture behind others, each at this port, 0 or 1, and this queue, 0 to 7.
+/// Appends the frames of a capture, each at this port, 0 or 1, and this queue, 0 to 7.
 ///
-/// It answers the capture's first fault or its want of memory. More than [`MOST_SCRIPT_FRAMES`](limits::MOST_SCRIPT_FRAMES)
-/// frames with those before are too many at the record where it comes; what is wrong with the capture alone comes before
-/// that. After a refusal the frames are those before, and perhaps some of the capture's behind them.
+/// Returns the capture's first fault or `Memory`. If the capture alone is good, but the total would exceed
+/// [`MOST_SCRIPT_FRAMES`](limits::MOST_SCRIPT_FRAMES), it returns `TooMany` with the number of the first record beyond
+/// that. After a refusal, some of the capture's frames may already be appended.
 pub fn add_capture(
     alloc: Global,
     frames: &mut Vec<WireFrame>,
@@ -45,7 +45,7 @@ pub fn add_capture(
     push_frames(alloc, frames, port, queue, found.records())
 }
 
-/// Puts the frames of these records behind others.
+/// Appends the frames of these records.
 fn push_frames(
     alloc: Global,
     frames: &mut Vec<WireFrame>,
@@ -67,7 +67,7 @@ fn push_frames(
     Ok(())
 }
 
-/// The frame of a record.
+/// Copies the frame of a record.
 fn frame_for(
     alloc: Global,
     port: u8,
@@ -84,11 +84,10 @@ fn frame_for(
     Ok(WireFrame::new(port, queue, bytes))
 }
 
-/// The frames of the captures in these files, those of the first, then those of the second and so on, each at its port and
-/// queue.
+/// Returns the frames of the captures in these files, source by source, each at its port and queue.
 ///
-/// It answers the first source that is refused, with `FileNotRead` where its file can't be read, `Memory` where there was no
-/// memory for its bytes, or the fault of its capture. The bytes of a file are given back before the next is read.
+/// Returns the first source that is refused, with `FileNotRead` if its file cannot be read, `Memory` if its bytes
+/// cannot be allocated, or the fault of its capture. The bytes of a file are freed before the next file is read.
 pub fn gather<R: Files>(rt: &R, alloc: Global, sources: &[Source<'_>]) -> Result<Script, Refused>
     ensures frames { IfOk result (λ script. AreGathered sources.now script) }
     ensures refused { IfErr result (λ e. IsUngathered sources.now e) }
@@ -107,7 +106,7 @@ pub fn gather<R: Files>(rt: &R, alloc: Global, sources: &[Source<'_>]) -> Result
     Ok(Script::new(frames))
 }
 
-/// Puts the frames of a source's capture behind others.
+/// Appends the frames of a source's capture.
 fn add_file<R: Files>(
     rt: &R,
     alloc: Global,

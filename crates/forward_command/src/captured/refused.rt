@@ -1,4 +1,4 @@
-//! What is refused, and for what.
+//! A refusal, and the file that it concerns.
 ghost use Rattle.std.specs.Prelude.{◌≡◌};
 ghost use Rattle.commands.specs.declared.answering.TheConstants.{REFUSED};
 ghost use Rattle.forward_command.specs.Refusals.{refused_itself};
@@ -7,21 +7,23 @@ use crate::captured::words::{Source, WireFile};
 use commands::{Refusal, refuse};
 use std::io::Write;
 
-/// For what something is refused.
+/// The subject of a refusal.
 #[derive(Clone, Copy, Debug)]
 pub enum Place {
-    /// The source of this place among the sources, counted from 0.
+    /// The source at this index, counted from 0.
     Source(usize),
-    /// The wire file of this place among the wire files.
+    /// The wire file at this index, counted from 0.
     Wire(usize),
     /// The command itself, or one of its streams.
     Command,
 }
 
-/// What is refused, and for what.
+/// A refusal, and its subject.
 #[derive(Clone, Copy, Debug)]
 pub struct Refused {
+    /// The file that the refusal concerns, or the command.
     pub place: Place,
+    /// The refusal.
     pub refusal: Refusal,
 }
 
@@ -36,7 +38,7 @@ impl From<Refusal> for Refused {
     }
 }
 
-/// Prints a refusal as the other commands do, behind the file that it is for, if it is for one, and answers its status.
+/// Prints a refusal as the other commands do, after the name of the file that it concerns, if any. Returns its status.
 pub fn tell<E: Write>(
     faults: &mut E,
     sources: &[Source<'_>],

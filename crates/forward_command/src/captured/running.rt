@@ -1,23 +1,21 @@
 //! A forwarding with captures: its script, its page and its wire files.
-ghost use Rattle.std.specs.Prelude.{◌≡◌, ◌≢◌, ◌⊎◌, ◌+◌, ◌*◌, ◌≤◌, [], length, IfErr, IfOk, OnOk};
-ghost use Rattle.std.specs.String.{string_bytes};
-ghost use Rattle.commands.specs.declared.refusal.Refusal.TheVariants as refusal;
-ghost use Rattle.forward_command.specs.Text.{report_text};
+ghost use Rattle.std.specs.Prelude.{◌≡◌, ◌≢◌, ◌*◌, ◌≤◌, [], length, None, IfErr, IfOk, option_map};
 ghost use Rattle.limits.specs.declared.profile.TheConstants.{MOST_PAIRS, PORTS};
 ghost use Rattle.forward_command.specs.CaptureForwards.{IsFaulty, IsNoScript, IsScript, IsUnpaged};
-ghost use Rattle.forward_command.specs.Wires.{IsUncaptured};
+ghost use Rattle.forward_command.specs.Streams.{IsStreamed, output_bytes, streamed_port};
 
-use crate::captured::files::{remove, rename, write_file};
 use crate::captured::gathering::gather;
 use crate::captured::refused::{Place, Refused};
+use crate::captured::targets::Target;
 use crate::captured::wires::wire_capture;
-use crate::captured::words::{Source, WireFile};
+use crate::captured::words::{Source, WireFile, names_output};
+use crate::captured::writing::write_wires;
 use crate::page::script_in;
 use crate::printing::Printing;
 use crate::text::text_of;
 use commands::{Refusal, read_text};
 use flows::FlowReport;
-use std::alloc::{AllocError, Global};
+use std::alloc::Global;
 use std::io::Read;
 use std::rt::Files;
 use wire_script::Script;
@@ -49,101 +47,56 @@ fn read_script<I: Read>(alloc: Global, input: &mut I) -> Result<Script, Refusal>
     script_in(alloc, text)
 }
 
-/// The page of reports, after the wire files were written.
+/// What goes to standard output of these reports, after the wire files were written; and the text of the counts, where a
+/// capture goes to standard output in its place.
 pub(crate) fn page_for<R: Files>(
     rt: &R,
     alloc: Global,
     pairs: usize,
     printing: Printing,
     wires: &[WireFile<'_>],
+    targets: &[Target],
     flows: &[FlowReport],
-) -> Result<String, Refused>
+) -> Result<(Vec<u8>, Option<String>), Refused>
     requires pairs { pairs ≤ MOST_PAIRS }
     requires flows { length flows.now ≡ PORTS * pairs }
-    ensures page { IfOk result (λ page. string_bytes page ≡ report_text printing pairs flows.now) }
+    requires targets { length targets.now ≡ length wires.now }
+    ensures page { IfOk result (λ p. p.0.items ≡ output_bytes printing (streamed_port wires.now) pairs flows.now) }
+    ensures beside { IfOk result (λ p. streamed_port wires.now ≡ None → p.1 ≡ None) }
     ensures refused { IfErr result (λ e. IsUnpaged wires.now e) }
 {
     let page = text_of(alloc, flows, pairs, printing)?;
-    write_wires(rt, alloc, pairs, wires, flows)?;
-    Ok(page)
+    let stream = streamed(alloc, pairs, wires, flows)?;
+    write_wires(rt, alloc, pairs, wires, targets, flows)?;
+    match stream {
+        Some(capture) => Ok((capture, Some(page))),
+        None => Ok((page.into_bytes(), None)),
+    }
 }
 
-/// Writes the wire files: each under another name beside it, and then all of them are renamed. A refusal before the first is
-/// renamed leaves all that stood there; those that were written under another name are removed, if that can be done.
-fn write_wires<R: Files>(
-    rt: &R,
+/// The capture that goes to standard output, if one does.
+fn streamed(
     alloc: Global,
     pairs: usize,
     wires: &[WireFile<'_>],
     flows: &[FlowReport],
-) -> Result<(), Refused>
+) -> Result<Option<Vec<u8>>, Refused>
     requires pairs { pairs ≤ MOST_PAIRS }
     requires flows { length flows.now ≡ PORTS * pairs }
-    ensures { IfErr result (λ e. IsUnpaged wires.now e) }
-{
-    let mut parts = Vec::new(alloc);
-    for at in 0..wires.len() {
-        let written = write_part(rt, alloc, pairs, &wires[at], flows, at, &mut parts);
-        if let Err(refusal) = written {
-            remove_all(rt, parts.as_slice());
-            let place = Place::Wire(at);
-            return Err(Refused { place, refusal });
-        }
-    }
-    rename_all(rt, parts.as_slice(), wires)
-}
-
-/// Writes the capture of a wire file under another name, and puts that behind the others.
-fn write_part<R: Files>(
-    rt: &R,
-    alloc: Global,
-    pairs: usize,
-    wire: &WireFile<'_>,
-    flows: &[FlowReport],
-    at: usize,
-    parts: &mut Vec<String>,
-) -> Result<(), Refusal>
-    requires pairs { pairs ≤ MOST_PAIRS }
-    requires flows { length flows.now ≡ PORTS * pairs }
-    ensures one { OnOk result (length parts.new.items ≡ length parts.old.items + 1) }
-    ensures refused { IfErr result (λ e. (e ≡ refusal.FileNotWritten) ⊎ IsUncaptured e) }
-{
-    let bytes = wire_capture(alloc, flows, pairs, wire.port())?;
-    let file = wire.file();
-    let part = part_name(alloc, file, at)?;
-    let written = write_file(rt, part.as_str(), bytes.as_slice());
-    drop(bytes);
-    if written.is_err() {
-        remove(rt, part.as_str());
-        return written;
-    }
-    parts.push(part).map_err(|_| Refusal::Memory)
-}
-
-/// The other name of a wire file, which stands beside it.
-fn part_name(alloc: Global, file: &str, at: usize) -> Result<String, AllocError> {
-    Ok(format!(in alloc; "{file}.{at}.part")?)
-}
-
-/// Gives each of these files the name of its wire file.
-fn rename_all<R: Files>(rt: &R, parts: &[String], wires: &[WireFile<'_>]) -> Result<(), Refused>
-    requires { length parts.now ≡ length wires.now }
-    ensures { IfErr result (λ e. IsUnpaged wires.now e) }
+    ensures capture { IfOk result (λ found. IsStreamed (streamed_port wires.now) pairs flows.now (option_map (λ bytes. bytes.items) found)) }
+    ensures refused { IfErr result (λ e. IsUnpaged wires.now e) }
 {
     for at in 0..wires.len() {
-        let renamed = rename(rt, parts[at].as_str(), wires[at].file());
-        if let Err(refusal) = renamed {
-            remove_all(rt, &parts[at..]);
-            let place = Place::Wire(at);
-            return Err(Refused { place, refusal });
+        if !names_output(wires[at].file()) {
+            continue;
         }
+        return match wire_capture(alloc, flows, pairs, wires[at].port()) {
+            Ok(bytes) => Ok(Some(bytes)),
+            Err(refusal) => {
+                let place = Place::Wire(at);
+                Err(Refused { place, refusal })
+            }
+        };
     }
-    Ok(())
-}
-
-/// Removes these files, as far as that can be done.
-fn remove_all<R: Files>(rt: &R, parts: &[String]) {
-    for part in parts {
-        remove(rt, part.as_str());
-    }
+    Ok(None)
 }

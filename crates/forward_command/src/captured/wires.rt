@@ -1,4 +1,4 @@
-//! What leaves a port, as a capture.
+//! Builds the capture of the frames that leave a port.
 ghost use Rattle.std.specs.Prelude.{◌≡◌, ◌+◌, ◌*◌, ◌<◌, ◌≤◌, ◌++◌, [], length, map, IfErr, IfOk, OnOk};
 ghost use Rattle.std.specs.List.{flat_map};
 ghost use Rattle.capture.specs.Writing.{capture_of, record_bytes};
@@ -16,19 +16,20 @@ use flows::FlowReport;
 use limits::{LEAST_FRAME, MOST_FRAME, MOST_SCRIPT_FRAMES};
 use std::alloc::Global;
 
-/// How many microseconds a second has.
+/// Microseconds in a second.
 const SECOND: u32 = 1_000_000;
 
-/// How many bytes a capture has before its records, and each record before its frame.
+/// Length in bytes of a capture's header, and of the header of each record.
 const HEADER: usize = 24;
 
 const RECORD_HEADER: usize = 16;
 
-/// The capture of what left a port, 0 or 1, out of the reports of so many queue pairs a port: the wires of the flows that
-/// came in at the other port, queues ascending, frame k, counted from 0, at k microseconds. Its room is made at once.
+/// Returns the capture of the frames that left a port, 0 or 1, from a report with `pairs` queue pairs at each port. It
+/// has the wires of the flows that came in at the other port, queues ascending; frame k, counted from 0, has a
+/// timestamp of k microseconds. It is allocated once.
 ///
-/// It answers `Memory`, or `Capture` where a frame is none that a capture has, for its length or since there are too many
-/// before it. No forwarding of a script makes such a report.
+/// Returns `Memory`, or `Capture` if a frame's length is not 14 to 15,000 bytes or there are more than
+/// [`MOST_SCRIPT_FRAMES`] frames. The report of a forwarded script has no such frames.
 pub fn wire_capture(
     alloc: Global,
     flows: &[FlowReport],
@@ -49,7 +50,7 @@ pub fn wire_capture(
     }
 }
 
-/// The capture of the wires of flows that go out of this port.
+/// Returns the capture of the wires of flows that leave this port.
 fn capture_of_flows(alloc: Global, port: u8, flows: &[FlowReport]) -> Result<Vec<u8>, Refusal>
     ensures bytes { IfOk result (λ bytes. bytes.items ≡ capture_of (records_from 0 (wires_from port 0 flows.now))) }
     ensures refused { IfErr result (λ e. IsUncaptured e) }
@@ -63,7 +64,7 @@ fn capture_of_flows(alloc: Global, port: u8, flows: &[FlowReport]) -> Result<Vec
     Ok(bytes)
 }
 
-/// A capture's header, with room for so many bytes.
+/// Returns a capture's header in a vector of capacity `room`.
 fn begun(alloc: Global, room: usize) -> Result<Vec<u8>, Refusal>
     ensures header { IfOk result (λ bytes. bytes.items ≡ capture_of []) }
     ensures refused { IfErr result (λ e. e ≡ Memory) }
@@ -75,7 +76,7 @@ fn begun(alloc: Global, room: usize) -> Result<Vec<u8>, Refusal>
     }
 }
 
-/// Writes a record for each frame of a wire, the first at so many microseconds, and answers how many there are then.
+/// Writes a record for each frame of a wire, the first at `number` microseconds. Returns the time of the next frame.
 fn write_wire(bytes: &mut Vec<u8>, number: u32, wire: &Wire) -> Result<u32, Refusal>
     ensures written { OnOk result (bytes.new.items ≡ bytes.old.items ++ flat_map record_bytes (records_from number (map (frame_of 0 0) wire.now))) }
     ensures counted { IfOk result (λ n. n ≡ number + length wire.now) }
@@ -89,7 +90,7 @@ fn write_wire(bytes: &mut Vec<u8>, number: u32, wire: &Wire) -> Result<u32, Refu
     Ok(at)
 }
 
-/// Writes a frame's record, at so many microseconds.
+/// Writes a frame's record, at `number` microseconds.
 fn write_frame(bytes: &mut Vec<u8>, number: u32, frame: &[u8]) -> Result<(), Refusal>
     ensures written { OnOk result (bytes.new.items ≡ bytes.old.items ++ record_bytes (record_at number (frame_of 0 0 frame.now))) }
     ensures few { OnOk result (number < MOST_SCRIPT_FRAMES) }
@@ -106,7 +107,7 @@ fn write_frame(bytes: &mut Vec<u8>, number: u32, frame: &[u8]) -> Result<(), Ref
     write_record(bytes, &found).map_err(|_| Refusal::Memory)
 }
 
-/// How many bytes the capture has. No clause needs it.
+/// Length of the capture in bytes. It is only a capacity, and no clause describes it.
 fn capture_len(flows: &[FlowReport]) -> usize {
     let mut len = HEADER;
     for flow in flows {
@@ -115,7 +116,7 @@ fn capture_len(flows: &[FlowReport]) -> usize {
     len
 }
 
-/// How many bytes the records of a wire have.
+/// Length of a wire's records in bytes.
 fn wire_len(wire: &Wire) -> usize {
     let mut len = 0usize;
     for frame in wire.iter() {

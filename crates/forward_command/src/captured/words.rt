@@ -1,7 +1,8 @@
-//! The words of `--capture` and of `--wire-capture`.
+//! Parses the words of `--capture` and `--wire-capture`.
 ghost use Rattle.std.specs.Prelude.{◌≡◌, ◌+◌, ◌<◌, ◌≤◌, ◌↔◌, ◌∷◌, Some, IfSome, IsTrue, MatchOption};
 ghost use Rattle.limits.specs.declared.profile.TheConstants.{MOST_PAIRS, PORTS};
 ghost use Rattle.forward_command.specs.Words.{IsDigit, IsSource, IsWireFile, PortFile, SourceFile, NoField, NoFirst, source_word, wire_file_word};
+ghost use Rattle.forward_command.specs.Streams.{names_output};
 
 use limits::{MOST_PAIRS, PORTS};
 use std::marker::Model;
@@ -23,7 +24,7 @@ impl<'a> Model for Source<'a> {
 }
 
 impl<'a> Source<'a> {
-    /// The port at which the frames come in, and the queue of that port.
+    /// The port and the queue at which the frames come in.
     pub fn place(&self) -> (u8, u8)
         ensures port { (result.0 ≡ self.now.port) × (result.0 < PORTS) }
         ensures queue { (result.1 ≡ self.now.queue) × (result.1 < MOST_PAIRS) }
@@ -39,7 +40,7 @@ impl<'a> Source<'a> {
     }
 }
 
-/// A file that is to have what leaves a port, 0 or 1, as a capture.
+/// A file for the capture of the frames that leave a port, 0 or 1.
 #[derive(Debug, Drop)]
 pub struct WireFile<'a> {
     port: u8,
@@ -55,7 +56,7 @@ impl<'a> Model for WireFile<'a> {
 }
 
 impl<'a> WireFile<'a> {
-    /// The port whose frames the file is to have.
+    /// The port whose frames are written.
     pub fn port(&self) -> u8
         ensures value { result ≡ self.now.port }
         ensures in_range { result < PORTS }
@@ -71,8 +72,8 @@ impl<'a> WireFile<'a> {
     }
 }
 
-/// The source that a word `PORT:QUEUE=FILE` tells, if it tells one: port and queue are one digit each, and the file's name
-/// is not empty.
+/// Parses a word `PORT:QUEUE=FILE`. Returns `None` unless the port is 0 or 1, the queue is 0 to 7, each is one digit,
+/// and the file's name is not empty.
 pub fn source_of(word: &str) -> Option<Source<'_>>
     ensures said { IfSome result (λ s. IsSource s × (word.now ≡ source_word s)) }
     ensures each { (s : SourceFile) → IsSource s → word.now ≡ source_word s → result ≡ Some s }
@@ -85,7 +86,7 @@ pub fn source_of(word: &str) -> Option<Source<'_>>
     Some(Source { port, queue, file })
 }
 
-/// The file that a word `PORT=FILE` tells, if it tells one: the port is one digit, and the file's name is not empty.
+/// Parses a word `PORT=FILE`. Returns `None` unless the port is 0 or 1, one digit, and the file's name is not empty.
 pub fn wire_file_of(word: &str) -> Option<WireFile<'_>>
     ensures said { IfSome result (λ w. IsWireFile w × (word.now ≡ wire_file_word w)) }
     ensures each { (w : PortFile) → IsWireFile w → word.now ≡ wire_file_word w → result ≡ Some w }
@@ -97,7 +98,14 @@ pub fn wire_file_of(word: &str) -> Option<WireFile<'_>>
     Some(WireFile { port, file })
 }
 
-/// The number that a word begins with, of one digit and below another, if this mark stands behind it; and the rest.
+/// Whether a wire file's name denotes standard output: `-` or `/dev/stdout`.
+pub(crate) fn names_output(file: &str) -> bool
+    ensures { result ≡ names_output file.now }
+{
+    file == "-" || file == "/dev/stdout"
+}
+
+/// Splits a word into a digit less than `below`, the byte `mark`, and the rest. Returns the digit's value and the rest.
 fn field_of(word: &str, below: usize, mark: u8) -> Option<(u8, &str)>
     requires digit { below ≤ 10 }
     requires mark { mark < 128 }
@@ -111,14 +119,14 @@ fn field_of(word: &str, below: usize, mark: u8) -> Option<(u8, &str)>
     Some((digit - b'0', rest))
 }
 
-/// Whether this is a digit below a number.
+/// Whether this is a digit whose value is less than `below`.
 fn is_digit(byte: u8, below: usize) -> bool
     ensures { IsTrue result ↔ IsDigit below byte }
 {
     byte >= b'0' && usize::from(byte - b'0') < below
 }
 
-/// The first byte of a word that begins in ASCII, and the rest.
+/// Splits off the first byte of a word, if it is ASCII.
 fn first_of(word: &str) -> Option<(u8, &str)>
     ensures { MatchOption result (NoFirst word.now) (λ x. (x.0 < 128) × (word.now ≡ x.0 ∷ x.1.now)) }
 {

@@ -1,4 +1,4 @@
-//! What a request does to the three streams, and the status that it ends with.
+//! Serves a request on the three streams, and returns its exit status.
 ghost use Rattle.std.specs.Prelude.{◌≡◌, ◌⊎◌, ℕ, List, Some, IfErr, OnOk};
 ghost use Rattle.std.specs.Io.KnownBytes.{Keeps};
 ghost use Rattle.commands.specs.Answers.{EndsBy};
@@ -12,9 +12,9 @@ use commands::{DONE, Refusal, put, refuse};
 use std::alloc::Global;
 use std::io::{Read, Write};
 
-/// Does what is asked for, and answers an exit status. What it makes goes to `output`, with status 0. A refusal goes to
-/// `faults` as one line, with status 1, as the other commands' do; before it stands the line or the record that it is
-/// for, if it is for one.
+/// Serves a request, and returns an exit status. The result goes to `output`, with status 0. A refusal goes to `faults`
+/// as one line, with status 1, as for the other commands; the line or the record that it concerns comes first, if there
+/// is one.
 pub fn answer<I: Read, W: Write, E: Write>(
     alloc: Global,
     request: CaptureRequest,
@@ -34,7 +34,7 @@ pub fn answer<I: Read, W: Write, E: Write>(
     }
 }
 
-/// Does what is asked for. What it refuses before it writes leaves `output` as it was.
+/// Serves a request. A refusal other than `Output` leaves `output` unchanged.
 pub fn perform<I: Read, W: Write>(
     alloc: Global,
     request: CaptureRequest,

@@ -1,19 +1,19 @@
-//! The lines of flows among those of wires.
+//! Skips the lines of flows among those of wires.
 ghost use Rattle.std.specs.Prelude.{◌≡◌, true, map};
 ghost use Rattle.text_lines.specs.Parts.{lines_of};
 ghost use Rattle.forward_command.specs.Flows.{passed_line, tells_of_flow, without_flows};
 
-/// How the line of a flow begins.
+/// The beginning of a flow's line.
 const FLOW: &[u8] = b"flow ";
 
-/// Makes each line that begins with `flow ` a comment, so that a script is read past it.
+/// Turns each line that begins with `flow ` into a comment, so that the script parser skips it.
 pub(crate) fn pass_flows(text: &mut [u8])
     ensures { lines_of text.new ≡ map passed_line (lines_of text.old) }
 {
     comment_flows(text);
 }
 
-/// Puts `#` in place of the first byte of each such line.
+/// Replaces the first byte of each such line by `#`.
 fn comment_flows(text: &mut [u8])
     ensures { text.new ≡ without_flows true text.old }
 {
@@ -27,7 +27,7 @@ fn comment_flows(text: &mut [u8])
     }
 }
 
-/// Whether these bytes begin as the line of a flow does.
+/// Whether these bytes begin like the line of a flow.
 fn tells_of_flow(bytes: &[u8]) -> bool
     ensures { result ≡ tells_of_flow bytes.now }
 {

@@ -1,4 +1,4 @@
-//! What the commands make of their input.
+//! Converts the input of the two commands.
 ghost use Rattle.std.specs.Prelude.{◌≡◌, ◌<◌, IfErr, IfOk, Ok};
 ghost use Rattle.std.specs.String.{string_bytes};
 ghost use Rattle.commands.specs.declared.refusal.Refusal.TheVariants as refusal;
@@ -16,7 +16,7 @@ use std::alloc::Global;
 use std::io::Read;
 use wire_script::{Script, parse};
 
-/// What a request makes of the input.
+/// Reads the input and converts it as the request asks.
 pub(crate) fn page_of<I: Read>(
     alloc: Global,
     request: CaptureRequest,
@@ -36,9 +36,9 @@ pub(crate) fn page_of<I: Read>(
     }
 }
 
-/// The frames of a capture as lines of a script, at this port, 0 or 1, and this queue, 0 to 7.
+/// Returns the frames of a capture as script lines, at this port, 0 or 1, and this queue, 0 to 7.
 ///
-/// It answers the capture's first fault or its want of memory, and `Memory` where the text had no room.
+/// Returns the capture's first fault or its `Memory`, and `Memory` if the text cannot be allocated.
 pub fn lines_in(alloc: Global, port: u8, queue: u8, bytes: &[u8]) -> Result<String, Refusal>
     requires port { port < PORTS }
     requires queue { queue < MOST_PAIRS }
@@ -49,11 +49,11 @@ pub fn lines_in(alloc: Global, port: u8, queue: u8, bytes: &[u8]) -> Result<Stri
     lines_at(alloc, port, queue, found.records()).map_err(|_| Refusal::Memory)
 }
 
-/// The frames of this port as a capture: those of a script's lines, past the lines of flows, as `forward` prints both.
-/// Frame k, counted from 0, has k microseconds.
+/// Returns the frames of this port as a capture. The text is a script, or a page of `forward`, whose flow lines are
+/// skipped. Frame k, counted from 0, has a timestamp of k microseconds.
 ///
-/// It answers the script's first fault or its want of memory, and `Memory` where the capture had no room. The text is
-/// given back before the capture is made.
+/// Returns the script's first fault or its `Memory`, and `Memory` if the capture cannot be allocated. The text is freed
+/// before the capture is built.
 pub fn capture_in(alloc: Global, port: u8, text: Vec<u8>) -> Result<Vec<u8>, Refusal>
     ensures done { IfOk result (λ bytes. capture_meant port text.items ≡ Ok bytes.items) }
     ensures refused { IfErr result (λ e. IsRefusedAs (capture_meant port text.items) e) }
@@ -62,7 +62,7 @@ pub fn capture_in(alloc: Global, port: u8, text: Vec<u8>) -> Result<Vec<u8>, Ref
     capture_of(alloc, port, &script).map_err(|_| Refusal::Memory)
 }
 
-/// The script that a text says past its lines of flows.
+/// Parses a script and skips its flow lines.
 fn script_in(alloc: Global, mut text: Vec<u8>) -> Result<Script, Refusal>
     ensures script { IfOk result (λ script. wires_in text.items ≡ Ok script) }
     ensures refused { IfErr result (λ e. (fault : ScriptError) × (e ≡ refusal.Script fault) × Fails fault (wires_in text.items)) }

@@ -1,20 +1,20 @@
-//! What is asked for.
+//! The requests of `from-capture` and `to-capture`.
 ghost use Rattle.std.specs.Prelude.{◌≡◌, ◌↔◌, true};
 ghost use Rattle.forward_command.specs.Requests.{IsPlaced};
 
 use limits::{MOST_PAIRS, PORTS};
 
-/// A request, with what it needs.
+/// A request to convert the input.
 #[derive(Clone, Copy, Debug)]
 pub enum CaptureRequest {
-    /// The frames of a capture as lines of a script, at this port and this queue.
+    /// Prints the frames of a capture as script lines, at this port, 0 or 1, and this queue, 0 to 7.
     FromCapture { port: u8, queue: u8 },
-    /// The frames of this port's wire as a capture.
+    /// Writes the frames of this port, 0 or 1, as a capture.
     ToCapture { port: u8 },
 }
 
 impl CaptureRequest {
-    /// Whether there is such a port, and such a queue.
+    /// Whether the port and the queue exist.
     pub fn is_placed(&self) -> bool
         ensures { (result ≡ true) ↔ IsPlaced self.now }
     {

@@ -1,4 +1,4 @@
-//! A forwarding that is shown.
+//! A run whose progress is shown.
 ghost use Rattle.std.specs.Prelude.{◌≡◌, ◌⊎◌, ℕ, ◌*◌, ◌<◌, ◌↔◌, IfErr, IfOk, IsErrOf, None, length, slice_index_or, vec_len};
 ghost use Rattle.counters.specs.Paired.{ArePaired};
 ghost use Rattle.flows.specs.Reports.{IsReport};
@@ -26,7 +26,7 @@ use std::thread::Threads;
 use std::time::Clock;
 use wire_script::Script;
 
-/// The cells of all flows, with the pens that write them and the readers of those who only look.
+/// The counter cells of all flows, with the pens that write them and the readers of the progress thread.
 #[derive(Drop)]
 struct Gauges<'c> {
     cells: &'c [FlowCells],
@@ -34,8 +34,9 @@ struct Gauges<'c> {
     readers: Vec<Reader<'c>>,
 }
 
-/// Forwards a script as [`forwarder::forward`] does. Where a form is given, a thread of its own writes to the screen how far
-/// it is. That thread is joined before anything is answered; where it can't be started, the numbers are shown once, at last.
+/// Forwards a script as [`forwarder::forward`] does. If a form is given, a separate thread writes the progress to
+/// `screen`. That thread is joined before the call returns. If it cannot be started, the numbers are shown once, at the
+/// end.
 pub fn forward<R: Threads + Wait + Clock + Sync, G: Gate + Sync, M: Write + Send>(
     rt: &R,
     alloc: Global,
@@ -69,7 +70,7 @@ pub fn forward<R: Threads + Wait + Clock + Sync, G: Gate + Sync, M: Write + Send
     forward_beside(rt, alloc, script, config, gate, gauges, screen, form)
 }
 
-/// Forwards a script that fits, beside the thread that shows how far it is.
+/// Forwards a script that fits, while another thread shows the progress.
 fn forward_beside<R: Threads + Wait + Clock + Sync, G: Gate + Sync, M: Write + Send>(
     rt: &R,
     alloc: Global,

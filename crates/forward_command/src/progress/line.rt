@@ -1,37 +1,41 @@
-//! What is shown of a run, and its text.
+//! The numbers that are shown of a run, and their text.
 ghost use Rattle.std.specs.Prelude.{Some};
 ghost use Rattle.forward_command.specs.ShownLines.{line_text, members_of, words_of};
 
 use std::fmt;
 
-/// How the numbers are written.
+/// How the numbers are written to the screen.
 #[derive(Clone, Copy, Debug, PartialEq, Eq)]
 pub enum Form {
-    /// A line each time.
+    /// A new line for each report.
     Lines,
-    /// One line of a terminal, which is written anew.
+    /// One line of a terminal, which each report overwrites.
     Rewritten,
-    /// A JSON object each time, on a line of its own.
+    /// A JSON object for each report, on its own line.
     Objects,
 }
 
-/// The numbers of all flows together, some of which may be of a later moment than others.
+/// The sums over all flows. Some flows may be read later than others.
 #[derive(Clone, Copy, Debug, PartialEq, Eq)]
 pub struct Shown {
-    /// The frames that were offered so far, and those that there are in all.
+    /// The frames offered so far.
     pub offered: u64,
+    /// The frames of the script.
     pub frames: u64,
-    /// The frames that the drivers took, and those that they posted.
+    /// The frames that the drivers have taken.
     pub taken: u64,
+    /// The frames that the drivers have posted.
     pub posted: u64,
-    /// The frames posted since the numbers were shown last, by the second.
+    /// The frames posted per second since the previous report.
     pub per_second: u64,
 }
 
-/// The text of what is shown, without its end.
+/// The text of one report, without the end of its line.
 #[derive(Clone, Copy, Debug, PartialEq, Eq)]
 pub struct Line {
+    /// The form of the text.
     pub form: Form,
+    /// The numbers.
     pub shown: Shown,
 }
 
@@ -48,7 +52,7 @@ impl fmt::Display for Line {
     }
 }
 
-/// The numbers, each behind its word.
+/// The numbers, each after its word.
 #[derive(Clone, Copy)]
 struct Words {
     shown: Shown,
@@ -72,7 +76,7 @@ impl fmt::Display for Words {
     }
 }
 
-/// The members of an object that has what is shown.
+/// The numbers as members of a JSON object.
 #[derive(Clone, Copy)]
 struct Members {
     shown: Shown,

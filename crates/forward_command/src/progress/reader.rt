@@ -1,10 +1,10 @@
-//! A flow's cells, read by a thread that doesn't write them.
+//! Reads one flow's cells on a thread that does not write them.
 ghost use Rattle.std.specs.Prelude.{◌≡◌};
 ghost use Rattle.counters.specs.Paired.{IsFresh};
 
 use counters::{DrivePass, FlowCells, FlowPens, StatPass};
 
-/// A flow's cells with passes of their own.
+/// A flow's cells with separate read passes.
 #[derive(Drop)]
 pub(crate) struct Reader<'c> {
     pub(crate) cells: &'c FlowCells,
@@ -15,7 +15,7 @@ pub(crate) struct Reader<'c> {
 }
 
 impl<'c> Reader<'c> {
-    /// A reader of a flow's cells. The pens have written nothing, and stay as they are.
+    /// Creates a reader of a flow's cells, from pens that have written nothing.
     pub(crate) fn new(cells: &'c FlowCells, pens: &mut FlowPens) -> Reader<'c>
         requires pens { IsFresh cells.now pens.old }
         ensures same { pens.new ≡ pens.old }

@@ -1,4 +1,4 @@
-//! The cells of all flows, read by a thread that doesn't write them.
+//! Reads the cells of all flows on a thread that does not write them.
 ghost use Rattle.std.specs.Prelude.{◌≡◌, IfOk, map};
 ghost use Rattle.counters.specs.Paired.{ArePaired};
 ghost use Rattle.forward_command.specs.ShownSums.{nothing_seen, read_by, sum_from, with_flow};
@@ -8,7 +8,7 @@ use counters::{FlowCells, FlowPens};
 use std::alloc::{AllocError, Global};
 use std::sync::Wait;
 
-/// What was read of all flows.
+/// The sums that were read.
 #[derive(Clone, Copy)]
 pub(crate) struct Seen {
     pub offered: u64,
@@ -17,7 +17,7 @@ pub(crate) struct Seen {
 }
 
 impl Reader<'_> {
-    /// The numbers of the flow added to these.
+    /// Reads the flow's numbers and adds them to `seen`.
     fn add<R: Wait>(&mut self, rt: &R, seen: Seen) -> Seen
         ensures sum { result ≡ with_flow seen self.new }
     {
@@ -31,7 +31,7 @@ impl Reader<'_> {
     }
 }
 
-/// A reader of each flow.
+/// Creates a reader for each flow.
 pub(crate) fn readers_of<'c>(
     alloc: Global,
     cells: &'c [FlowCells],
@@ -48,7 +48,7 @@ pub(crate) fn readers_of<'c>(
     Ok(readers)
 }
 
-/// The numbers of all flows together, each of which was read now.
+/// Reads all flows and returns the sums.
 pub(crate) fn read_all<R: Wait>(rt: &R, readers: &mut [Reader<'_>]) -> Seen
     ensures sum { result ≡ sum_from nothing_seen readers.new }
 {

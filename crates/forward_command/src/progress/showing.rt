@@ -1,4 +1,4 @@
-//! The thread that shows how far a run is.
+//! The thread that shows the progress of a run.
 ghost use Rattle.std.specs.Prelude.{◌≡◌};
 ghost use Rattle.forward_command.specs.ShownSums.{Shows};
 
@@ -11,20 +11,20 @@ use std::sync::atomic::{AtomicBool, Ordering};
 use std::thread;
 use std::time::{Clock, Duration, Instant};
 
-/// How often it looks whether the run is over, before it shows numbers again.
+/// Number of checks for the end of the run between two reports.
 const LOOKS: u32 = 100;
 
-/// How many milliseconds lie between two looks.
+/// Milliseconds between two checks.
 const NAP: u64 = 10;
 
-/// What was shown last, and when.
+/// The last report and its time.
 #[derive(Drop)]
 struct Last {
     posted: u64,
     at: Option<Instant>,
 }
 
-/// Sleeps for a second, or until the run is over. It answers whether it is.
+/// Sleeps for a second, or until the run is over. Returns whether it is over.
 fn rest<C: Clock>(clock: &C, over: &AtomicBool) -> bool {
     for _ in 0..LOOKS {
         if over.load(Ordering::SeqCst) {
@@ -35,7 +35,7 @@ fn rest<C: Clock>(clock: &C, over: &AtomicBool) -> bool {
     over.load(Ordering::SeqCst)
 }
 
-/// How many milliseconds lie between two readings of the clock; at least 1. Where it can't be read, a second is taken.
+/// Milliseconds between two readings of the clock, at least 1. Returns 1,000 if the clock could not be read.
 fn millis_between(earlier: Option<Instant>, later: Option<Instant>) -> u64 {
     let (Some(earlier), Some(later)) = (earlier, later) else {
         return 1000;
@@ -45,7 +45,7 @@ fn millis_between(earlier: Option<Instant>, later: Option<Instant>) -> u64 {
 }
 
 impl Last {
-    /// What is to be shown of these numbers, which are the last from then on.
+    /// Returns the report of these numbers, and keeps them as the last.
     fn shown<C: Clock>(&mut self, clock: &C, seen: Seen, frames: u64) -> Shown
         ensures shows { Shows seen frames result }
         ensures last { self.new.posted ≡ seen.posted }
@@ -65,7 +65,7 @@ impl Last {
     }
 }
 
-/// Writes a line, and its end where it isn't written anew. A screen that fails changes nothing.
+/// Writes a line, with a line end unless it is rewritten. A failing screen changes nothing.
 fn write_line<M: Write>(to: &mut M, line: Line) {
     let _ = match line.form {
         Form::Rewritten => write!(to, "{line}"),
@@ -73,7 +73,7 @@ fn write_line<M: Write>(to: &mut M, line: Line) {
     };
 }
 
-/// Shows the numbers once a second, and once more when the run is over.
+/// Shows the numbers once a second, and once more at the end of the run.
 pub(crate) fn watch<R: Wait + Clock, M: Write>(
     rt: &R,
     readers: &mut [Reader<'_>],

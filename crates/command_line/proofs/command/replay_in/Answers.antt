@@ -16,6 +16,7 @@ returns-then-draws_any c plan has =
 pub returns : goal.returns
 returns c plan has =
     let pictures = ap (λ (o : Option Pictures). unwrap_or o c.in_ok-pictures.pictures) (c.in_ok-pictures.ensures plan.shown.pictures has.picture) in
-    plan_is plan _ _ _ _ _ (c.in_ok-pairs.ensures plan.pairs has.pairs) (c.in_ok-ring.ensures plan.ring has.ring)
+    plan_is plan _ _ _ _ _ _ (c.in_ok-pairs.ensures plan.pairs has.pairs) (c.in_ok-ring.ensures plan.ring has.ring)
     (begins_as plan.enabled _ (c.flag_in-enabled.ensures (not plan.enabled) has.off)) (c.completion_in-completion.ensures plan.completion has.head)
+    (c.flag_in-lists.ensures plan.lists has.lists)
     (shown_is plan.shown _ _ _ (c.flag_in-json.ensures plan.shown.json has.json) (c.flag_in.ensures plan.shown.registers has.registers) pictures)

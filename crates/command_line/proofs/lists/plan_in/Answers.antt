@@ -14,9 +14,8 @@ from-parts plan k n b c m r d pairs_are ring_is enabled_is completion_is moves_a
     rw (pairs_are, ring_is, enabled_is, completion_is, moves_are, refused_is, device_is) refl
 
 pub returns : goal.returns
-returns c request has =
+returns c plan has moves_are refused_are =
     ap (λ (p : SchedulePlan). Some p)
-    (from-parts request.plan _ _ _ _ _ _ _ (c.in_ok-pairs.ensures request.plan.pairs has.pairs) (c.in_ok-ring.ensures request.plan.ring has.ring)
-    (begins_as request.plan.enabled _ (c.flag_in-enabled.ensures (not request.plan.enabled) has.off)) (c.completion_in-completion.ensures request.plan.completion has.head)
-    (c.in_ok-moves.ensures request.plan.moves has.moves) (c.in_ok-refused.ensures request.plan.refused has.refused)
-    (c.flag_in-device_only.ensures request.plan.device_only has.device_only))
+    (from-parts plan _ _ _ _ _ _ _ (c.in_ok-pairs.ensures plan.pairs has.pairs) (c.in_ok-ring.ensures plan.ring has.ring)
+    (begins_as plan.enabled _ (c.flag_in-enabled.ensures (not plan.enabled) has.off)) (c.completion_in-completion.ensures plan.completion has.head)
+    moves_are refused_are (c.flag_in-device_only.ensures plan.device_only has.device_only))

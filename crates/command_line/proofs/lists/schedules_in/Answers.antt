@@ -1,19 +1,25 @@
--- The plan, the numbers and the flag are those of the request.
-use Rattle.std.proofs.Common.{◌≡◌, ap, refl, ℕ, Bool, Option, Some, None, unwrap_or}
+-- The plan, the numbers and what is expected are those of the request.
+use Rattle.std.proofs.Common.{◌≡◌, ap, Option, Some, None, unwrap_or}
+use Rattle.commands.specs.declared.replay.Shown.{Shown}
 use Rattle.schedules.specs.declared.plan.SchedulePlan.{SchedulePlan}
 use Rattle.schedule_command.specs.declared.request.ScheduleRequest.{ScheduleRequest}
+use Rattle.command_line.proofs.RequestParts.{request-from}
 use Rattle.command_line.proofs.lists.schedules_in.Goals as goal
 
--- a request, from its parts
-from-parts : (request : ScheduleRequest) (p : SchedulePlan) (s n : ℕ) (e : Bool) → p ≡ request.plan → s ≡ request.seed → n ≡ request.count → e ≡ request.expect
-    → ◌≡◌ {A = ScheduleRequest} (record { plan = p; seed = s; count = n; expect = e }) request
-from-parts request p s n e plan_is seed_is count_is expect_is = rw (plan_is, seed_is, count_is, expect_is) refl
-
 pub returns-in_err-plan : goal.returns-in_err-plan
-returns-in_err-plan c request has = let none : None ≡ Some request.plan = c.in_err-plan.ensures request has in cc
+returns-in_err-plan c request has =
+    let none : None ≡ Some request.plan = c.in_err-plan.ensures request.plan has.queues (c.in_ok-moves.ensures request.plan.moves has.moves)
+    (c.in_ok-refused.ensures request.plan.refused has.refused) in
+    cc
+
+pub returns-in_err-expect : goal.returns-in_err-expect
+returns-in_err-expect c request has = let none : None ≡ Some request.expect = c.in_err-expect.ensures request.expect has.expect in cc
 
 pub returns : goal.returns
 returns c request has =
+    let plan = c.in_ok-plan.ensures request.plan has.queues (c.in_ok-moves.ensures request.plan.moves has.moves)
+    (c.in_ok-refused.ensures request.plan.refused has.refused) in
     ap (λ (r : ScheduleRequest). Some r)
-    (from-parts request _ _ _ _ (ap (λ (o : Option SchedulePlan). unwrap_or o request.plan) (c.in_ok-plan.ensures request has))
-    (c.in_ok-seed.ensures request.seed has.seed) (c.in_ok-count.ensures request.count has.count) (c.flag_in-expect.ensures request.expect has.expect))
+    (request-from request _ _ _ _ (ap (λ (o : Option SchedulePlan). unwrap_or o request.plan) plan)
+    (c.in_ok-seed.ensures request.seed has.seed) (c.in_ok-count.ensures request.count has.count)
+    (ap (λ (o : Option (Option Shown)). unwrap_or o request.expect) (c.in_ok-expect.ensures request.expect has.expect)))

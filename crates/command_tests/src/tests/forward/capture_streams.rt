@@ -1,4 +1,4 @@
-//! Streams of `from-capture` and `to-capture` that fail, and want of memory.
+//! Failing streams and allocations of `from-capture` and `to-capture`.
 
 use crate::tests::failing::{each_beginning, each_cut};
 use crate::tests::forward::captured::{AT_0, FIVES, HEADER, joined};
@@ -21,7 +21,7 @@ fn an_output_that_fails_has_a_beginning(rt: HostRuntime) {
     each_beginning(&rt, rt.alloc(), (TO, SCRIPT), whole.as_slice(), &rooms)
 }
 
-/// What can be read of the input: nothing, the header of a capture, a line, and the beginning of one.
+/// The part of the input that can be read: nothing, the header of a capture, a line, and the beginning of a line.
 const CUT: &[(&[&str], &[u8])] = &[
     (TO, b""),
     (
@@ -44,7 +44,7 @@ fn an_input_that_fails_in_mid_stream_is_refused(rt: HostRuntime) {
     each_cut(&rt, rt.alloc(), CUT)
 }
 
-/// What `to-capture` writes, or nothing where memory is refused.
+/// The output of `to-capture`, or nothing if an allocation fails.
 fn capture_written<A: Abort>(rt: &A, alloc: Global) -> Vec<u8> {
     let mut output = Narrow::new(alloc, 400);
     let request = CaptureRequest::ToCapture { port: 1 };
@@ -58,7 +58,7 @@ fn capture_written<A: Abort>(rt: &A, alloc: Global) -> Vec<u8> {
     output.taken
 }
 
-/// From that capture `from-capture` writes the line again, or nothing.
+/// `from-capture` converts that capture back to the line, or writes nothing.
 fn line_is_written<A: Abort>(rt: &A, alloc: Global, mut capture: &[u8]) {
     let mut output = Narrow::new(alloc, 400);
     let request = CaptureRequest::FromCapture { port: 1, queue: 0 };
@@ -71,7 +71,7 @@ fn line_is_written<A: Abort>(rt: &A, alloc: Global, mut capture: &[u8]) {
     }
 }
 
-// With any one allocation refused, as `rt try --test --fail-alloc N` does, this passes too.
+// This also passes when any one allocation fails, as with `rt try --test --fail-alloc N`.
 #[test]
 fn want_of_memory(rt: HostRuntime) {
     let capture = capture_written(&rt, rt.alloc());

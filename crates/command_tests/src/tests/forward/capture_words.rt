@@ -1,8 +1,8 @@
-//! The help of `from-capture` and `to-capture`, and words that are wrong.
+//! The help of `from-capture` and `to-capture`, and mistaken words.
 
 use crate::tests::told::{Page, each_has_page};
 
-/// Words that ask for help, and what it has to say.
+/// Words that ask for help, and a text that it must contain.
 const HELPED: &[(&[&str], &str)] = &[
     (
         &["from-capture", "--help"],
@@ -17,7 +17,7 @@ const HELPED: &[(&[&str], &str)] = &[
     (&["--help"], "to-capture"),
 ];
 
-/// Words that are wrong, and what has to be told of them.
+/// Mistaken words, and a text that the error must contain.
 const WRONG: &[(&[&str], &str)] = &[
     (&["from-capture"], "PORT"),
     (&["from-capture", "0"], "QUEUE"),

@@ -1,13 +1,13 @@
-//! Captures by their parts, and runs that read or write them.
+//! Parts of captures, and runs that read or write captures.
 
 use crate::tests::runs::{Host, outcome_of};
 use crate::tests::told::comes_to;
 use std::alloc::{AllocError, Global};
 
-/// The header of each capture that is written: little-endian, microseconds, version 2.4, a snap length of 65,535, Ethernet.
+/// The header of each written capture: little-endian, microseconds, version 2.4, a snap length of 65,535, Ethernet.
 pub const HEADER: &[u8] = b"\xd4\xc3\xb2\xa1\x02\x00\x04\x00\0\0\0\0\0\0\0\0\xff\xff\0\0\x01\0\0\0";
 
-/// A header in big-endian order, of nanoseconds and with another snap length.
+/// A header in big-endian order, with nanoseconds and another snap length.
 pub const BIG_NANOS: &[u8] =
     b"\xa1\xb2\x3c\x4d\x00\x02\x00\x04\0\0\0\0\0\0\0\0\0\0\x01\0\0\0\0\x01";
 
@@ -23,7 +23,7 @@ pub const AT_2: &[u8] = b"\0\0\0\0\x02\0\0\0\x0e\0\0\0\x0e\0\0\0";
 
 pub const BIG_SOME: &[u8] = b"\x5f\x00\0\0\0\x00\0\x07\0\0\0\x0e\0\0\0\x0e";
 
-/// A header of a record that is refused: 14 bytes of 15.
+/// The header of a refused record: 14 bytes of 15.
 pub const SHORT: &[u8] = b"\0\0\0\0\0\0\0\0\x0e\0\0\0\x0f\0\0\0";
 
 /// Frames of 14 bytes.
@@ -33,10 +33,10 @@ pub const BYTES: &[u8] = b"\0\x01\x0a\x0d\x23\x66\x7f\x80\xfe\xff\0\0\0\x0a";
 
 pub const FIVES: &[u8] = b"\x05\x06\x05\x05\x05\x05\x05\x05\x05\x05\x05\x05\x05\x05";
 
-/// What goes in, comes out or stands in a file, by its parts.
+/// The parts of an input, an output or a file.
 pub type Content = &'static [&'static [u8]];
 
-/// All of these parts, one behind another.
+/// Joins these parts.
 pub fn joined(alloc: Global, parts: &[&[u8]]) -> Result<Vec<u8>, AllocError> {
     let mut bytes = Vec::new(alloc);
     for part in parts {
@@ -45,13 +45,13 @@ pub fn joined(alloc: Global, parts: &[&[u8]]) -> Result<Vec<u8>, AllocError> {
     Ok(bytes)
 }
 
-/// Words, what goes in, and what comes out.
+/// Words, the input and the output.
 pub type Writing = (&'static [&'static str], Content, Content);
 
-/// What goes in, and the line that it is refused with.
+/// The input, and the line of its refusal.
 pub type Refusing = (Content, &'static str);
 
-/// A run on these words and this input comes to this output and these faults.
+/// A run on these words and this input has this output and these faults.
 pub fn brings<R: Host>(
     rt: &R,
     alloc: Global,
@@ -64,7 +64,7 @@ pub fn brings<R: Host>(
     comes_to(rt, alloc, words, &mut input.as_slice(), wanted)
 }
 
-/// Each run writes what its row says, and no faults.
+/// Each run writes the output of its row, and no faults.
 pub fn each_writes<R: Host>(rt: &R, alloc: Global, rows: &[Writing]) {
     for (words, input, output) in rows {
         brings(rt, alloc, (words, input), (output, ""));
@@ -78,7 +78,7 @@ pub fn each_is_refused<R: Host>(rt: &R, alloc: Global, words: &[&str], rows: &[R
     }
 }
 
-/// What the first run writes is what the next one reads, and that writes this.
+/// The second run reads the output of the first, and writes this.
 pub fn is_piped<R: Host>(
     rt: &R,
     alloc: Global,

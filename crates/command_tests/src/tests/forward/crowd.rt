@@ -1,20 +1,20 @@
-//! A script of 10,000 frames over 16 flows, and what it prints.
+//! A script of 10,000 frames over 16 flows, and its output.
 
 use std::alloc::{AllocError, Global};
 
-/// How many flows 8 queue pairs have.
+/// Number of flows of 8 queue pairs.
 pub const FLOWS: u32 = 16;
 
 const QUEUES: u32 = 8;
 
 const FRAMES: u32 = 10_000;
 
-/// The byte of the frame of this number, which it has 60 times.
+/// The byte of the frame with this number. A frame is 60 times its byte.
 fn byte_of(frame: u32) -> u8 {
     (frame % 251) as u8
 }
 
-/// The script: frame by frame another flow, port 0 and 1 in turn.
+/// The script: each frame is on another flow, with ports 0 and 1 in turn.
 pub fn crowd(alloc: Global) -> Result<String, AllocError> {
     let mut script = String::new(alloc);
     for frame in 0..FRAMES {
@@ -24,7 +24,7 @@ pub fn crowd(alloc: Global) -> Result<String, AllocError> {
     Ok(script)
 }
 
-/// What goes out of a port and queue: the frames that came in at the same queue of the other port, touched.
+/// Writes the wire of a port and queue: the touched frames that came in at the same queue of the other port.
 fn write_wire(text: &mut String, port: u32, queue: u32) -> Result<(), AllocError> {
     for frame in 0..FRAMES {
         if frame % 2 != port && frame / 2 % QUEUES == queue {
@@ -40,7 +40,7 @@ fn write_wire(text: &mut String, port: u32, queue: u32) -> Result<(), AllocError
     Ok(())
 }
 
-/// What it prints: each flow has 625 frames.
+/// The output of the script: each flow has 625 frames.
 pub fn crowd_forwarded(alloc: Global) -> Result<String, AllocError> {
     let mut text = String::new(alloc);
     for port in 0..2 {

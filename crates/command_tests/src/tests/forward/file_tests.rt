@@ -1,4 +1,4 @@
-//! Forwarding from captures and to captures, with files.
+//! `forward` with capture files as input and output.
 
 use crate::tests::forward::captured::{
     AT_0, AT_1, AT_2, BYTES, Content, FIVES, HEADER, LETTERS, RAW, SHORT, joined,
@@ -12,7 +12,7 @@ use std::fs;
 use std::process::Abort;
 use std::rt::Files;
 
-/// Files that are written before a run whose input can't be read, what it comes to, and files that are afterwards as here.
+/// The files before a run whose input cannot be read, its output and faults, and the files after it.
 struct Row {
     files: &'static [(&'static str, Content)],
     words: &'static [&'static str],
@@ -21,7 +21,7 @@ struct Row {
     kept: &'static [(&'static str, Content)],
 }
 
-/// Puts these files where the tests run.
+/// Writes these files to the directory of the test.
 fn put<R: Abort + Files>(rt: &R, alloc: Global, files: &[(&str, Content)]) {
     for (name, content) in files {
         let bytes = joined(alloc, content).expect(rt, "memory");
@@ -47,8 +47,8 @@ fn each_comes_to<R: Host + AllocGlobal>(rt: &R, alloc: Global, rows: &[Row]) {
     }
 }
 
-/// Captures come in at their port and queue, those of one queue behind one another; and the wire file of a run is the next
-/// one's capture.
+/// Captures come in at their port and queue, those of one queue in order. The wire file of a run is the capture of the
+/// next.
 const FORWARDED: &[Row] = &[
     Row {
         files: &[
@@ -113,11 +113,11 @@ fn captures_are_forwarded(rt: HostRuntime) {
     each_comes_to(&rt, rt.alloc(), FORWARDED)
 }
 
-/// What stands in a wire file before a run that doesn't write it.
+/// The contents of a wire file before a run that does not write it.
 const OLD: Content = &[b"what stood there"];
 
-/// A file that isn't there; a good capture, a faulty one, and a file that isn't read; a wire file that can't be written, and a
-/// script that can't be read, both of which leave the other wire files.
+/// A missing file; a good capture, a faulty one, and a file that is not read; a wire file that cannot be written, and a
+/// script that cannot be read, both of which leave the other wire files unchanged.
 const REFUSED: &[Row] = &[
     Row {
         files: &[],
@@ -186,6 +186,68 @@ const REFUSED: &[Row] = &[
     },
 ];
 
+/// Files that are named twice, with nothing forwarded: as wire files, by another path, and as a source and a wire file.
+const TWICE: &[Row] = &[
+    Row {
+        files: &[("twice_old.pcap", OLD)],
+        words: &[
+            "forward",
+            "--wire-capture",
+            "0=twice_old.pcap",
+            "--wire-capture",
+            "1=./twice_old.pcap",
+        ],
+        output: "",
+        faults: "./twice_old.pcap: refused 87 same file\n",
+        kept: &[("twice_old.pcap", OLD)],
+    },
+    Row {
+        files: &[],
+        words: &[
+            "forward",
+            "--wire-capture",
+            "0=twice_new.pcap",
+            "--wire-capture",
+            "1=./twice_new.pcap",
+        ],
+        output: "",
+        faults: "./twice_new.pcap: refused 87 same file\n",
+        kept: &[],
+    },
+    Row {
+        files: &[("twice_in.pcap", &[HEADER, AT_0, LETTERS])],
+        words: &[
+            "forward",
+            "--capture",
+            "0:0=twice_in.pcap",
+            "--wire-capture",
+            "1=twice_in.pcap",
+        ],
+        output: "",
+        faults: "twice_in.pcap: refused 87 same file\n",
+        kept: &[("twice_in.pcap", &[HEADER, AT_0, LETTERS])],
+    },
+    Row {
+        files: &[],
+        words: &[
+            "forward",
+            "--wire-capture",
+            "0=-",
+            "--wire-capture",
+            "1=/dev/stdout",
+        ],
+        output: "",
+        faults: "/dev/stdout: refused 87 same file\n",
+        kept: &[],
+    },
+];
+
+#[test]
+fn a_file_that_is_named_twice_is_refused(rt: HostRuntime) {
+    each_comes_to(&rt, rt.alloc(), TWICE);
+    holds(&rt, fs::read(&rt, "twice_new.pcap").is_err());
+}
+
 #[test]
 fn a_file_that_fails_is_named_and_leaves_the_wire_files(rt: HostRuntime) {
     each_comes_to(&rt, rt.alloc(), REFUSED);
@@ -206,7 +268,7 @@ const WIRED: &[&str] = &[
     "1=lines_1.pcap",
 ];
 
-/// The file is what `to-capture` makes of these lines for this port, and has a record.
+/// The file is the output of `to-capture` for these lines and this port, and has a record.
 fn is_of_lines<R: Host + AllocGlobal>(rt: &R, alloc: Global, lines: &[u8], port: &str, file: &str) {
     let words = ["to-capture", port];
     let made = outcome_of(rt, alloc, words.as_slice(), lines).expect(rt, "a run");
@@ -224,7 +286,31 @@ fn what_leaves_a_port_is_the_capture_of_its_lines(rt: HostRuntime) {
     is_of_lines(&rt, rt.alloc(), lines, "1", "lines_1.pcap")
 }
 
-const SOURCE: &str = "a source is PORT:QUEUE=FILE";
+const STREAMED: &[&str] = &[
+    "forward",
+    "--pairs",
+    "2",
+    "--quiet",
+    "--wire-capture",
+    "1=-",
+];
+
+const STREAMED_COUNTS: &str =
+    "flow 0 0 offered 1 stored 1 dropped 0 oversize 0 taken 1 posted 1 tx-dropped 0 wire 1 left 0 ended drained\nflow 0 1 offered 2 stored 2 dropped 0 oversize 0 taken 2 posted 2 tx-dropped 0 wire 2 left 0 ended drained\nflow 1 0 offered 1 stored 1 dropped 0 oversize 0 taken 1 posted 1 tx-dropped 0 wire 1 left 0 ended drained\nflow 1 1 offered 0 stored 0 dropped 0 oversize 0 taken 0 posted 0 tx-dropped 0 wire 0 left 0 ended drained\n";
+
+#[test]
+fn a_capture_has_standard_output_for_itself(rt: HostRuntime) {
+    let plain = outcome_of(&rt, rt.alloc(), PLAIN, SCRIPT).expect(&rt, "a run");
+    let words = ["to-capture", "1"];
+    let lines = plain.output.as_slice();
+    let made = outcome_of(&rt, rt.alloc(), words.as_slice(), lines).expect(&rt, "a run");
+    let streamed = outcome_of(&rt, rt.alloc(), STREAMED, SCRIPT).expect(&rt, "a run");
+    same(&rt, streamed.status, 0);
+    same(&rt, streamed.output.as_slice(), made.output.as_slice());
+    same(&rt, streamed.shown(), STREAMED_COUNTS);
+}
+
+const SOURCE: &str = "--capture takes PORT:QUEUE=FILE";
 
 const NO_SOURCES: &[(&[&str], &str)] = &[
     (&["forward", "--capture", "2:0=x.pcap"], SOURCE),

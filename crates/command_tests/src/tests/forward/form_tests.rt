@@ -1,4 +1,4 @@
-//! What `progress` shows of a short run, in each form, and a screen that fails.
+//! The progress of a short run in each form, and a screen that fails.
 
 use crate::tests::runs::{Host, text_of};
 use crate::tests::wanted::{holds, same};
@@ -31,7 +31,7 @@ fn frames_sent(report: &Report) -> Option<usize> {
     Some(flow.wire.len())
 }
 
-/// What is shown of the script in this form has the numbers, before the rate, and its end; flow 0 sends two frames.
+/// The progress of the script in this form has these numbers before the rate, and this end. Flow 0 sends two frames.
 fn shows<R: Host>(
     rt: &R,
     alloc: Global,
@@ -76,7 +76,7 @@ fn each_form_is_shown_at_last(rt: HostRuntime) {
     }
 }
 
-/// How many flows a run has whose form is shown on this screen, or that shows nothing.
+/// Number of flows of a run with this form of progress, or none, on this screen.
 fn flows_on<R: Host, W: Write + Send>(
     rt: &R,
     alloc: Global,

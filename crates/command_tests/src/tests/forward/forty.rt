@@ -1,11 +1,11 @@
-//! A script of 40 frames on one flow of four, over rings of 8, and what it prints.
+//! A script of 40 frames on one flow of four, over rings of 8, and its output.
 
 use std::alloc::{AllocError, Global};
 
-/// Two pairs, and rings that have to be filled again and again.
+/// Two pairs, and rings that are filled several times.
 pub const FORTY_WORDS: &[&str] = &["forward", "--pairs", "2", "--ring", "8"];
 
-/// These words, with options behind them.
+/// These words, followed by options.
 pub fn forty_words<'a>(alloc: Global, options: &[&'a str]) -> Result<Vec<&'a str>, AllocError> {
     let mut words = Vec::new(alloc);
     words.extend_from_slice(FORTY_WORDS)?;
@@ -13,10 +13,10 @@ pub fn forty_words<'a>(alloc: Global, options: &[&'a str]) -> Result<Vec<&'a str
     Ok(words)
 }
 
-/// The bytes of the 40 frames, each of which has 60 of its byte.
+/// Each of the 40 frames is 60 times one byte: 0x00 to this one, and 0xff.
 const LAST: u8 = 0x26;
 
-/// The line of the flow that has the 40 frames, and those of the others.
+/// The line of the flow with the 40 frames, and those of the other flows.
 const FLOWS: &str =
     "flow 0 0 offered 0 stored 0 dropped 0 oversize 0 taken 0 posted 0 tx-dropped 0 wire 0 left 0 ended drained\nflow 0 1 offered 40 stored 40 dropped 0 oversize 0 taken 40 posted 40 tx-dropped 0 wire 40 left 0 ended drained\nflow 1 0 offered 0 stored 0 dropped 0 oversize 0 taken 0 posted 0 tx-dropped 0 wire 0 left 0 ended drained\nflow 1 1 offered 0 stored 0 dropped 0 oversize 0 taken 0 posted 0 tx-dropped 0 wire 0 left 0 ended drained\n";
 
@@ -30,7 +30,7 @@ pub fn forty(alloc: Global) -> Result<String, AllocError> {
     Ok(script)
 }
 
-/// A frame's line as it goes out: 60 times a byte, whose second is one greater.
+/// Writes the line of an outgoing frame: 60 times a byte, the second of which is one greater.
 fn write_touched(text: &mut String, byte: u8) -> Result<(), AllocError> {
     let touched = byte.wrapping_add(1);
     write!(text, "1 1 {byte:02x}{touched:02x}")?;
@@ -40,7 +40,7 @@ fn write_touched(text: &mut String, byte: u8) -> Result<(), AllocError> {
     text.push('\n')
 }
 
-/// What they print.
+/// The output of the script.
 pub fn forty_forwarded(alloc: Global) -> Result<String, AllocError> {
     let mut text = String::new(alloc);
     for byte in 0..=LAST {

@@ -1,4 +1,4 @@
-//! Runs of `forward`, each to the byte.
+//! Runs of `forward` with their exact output.
 
 use crate::tests::told::Row;
 
@@ -190,7 +190,7 @@ pub const REFUSED: &[Row] = &[
     },
 ];
 
-/// Scripts whose wires are left out, or whose flows are told as objects.
+/// Scripts with `--quiet` or `--json`.
 pub const SHAPED: &[Row] = &[
     Row {
         words: &["forward", "--json"],

@@ -1,4 +1,4 @@
-//! Scripts from text to text.
+//! Runs of `forward` on scripts.
 
 use crate::tests::forward::crowd::{FLOWS, crowd, crowd_forwarded};
 use crate::tests::forward::forty::{forty, forty_forwarded, forty_words};
@@ -8,7 +8,7 @@ use crate::tests::told::{comes_to_text, each_comes_to};
 use crate::tests::wanted::same;
 use std::alloc::Global;
 
-/// Options beside two pairs and rings of 8 that change nothing of what is printed.
+/// Options with two pairs and rings of 8 that do not change the output.
 const SAME: &[&[&str]] = &[
     &[],
     &["--workers", "2"],
@@ -37,7 +37,7 @@ fn without_wires_and_as_objects_it_comes_to_its_text(rt: HostRuntime) {
     each_comes_to(&rt, rt.alloc(), SHAPED)
 }
 
-/// With these options the 40 frames are printed so.
+/// With these options, the 40 frames have this output.
 fn forwards_forty<R: Host>(
     rt: &R,
     alloc: Global,
@@ -61,7 +61,7 @@ fn forty_frames_are_printed_alike_whatever_the_workers(rt: HostRuntime) {
     each_forwards_forty(&rt, rt.alloc(), (script.as_str(), printed.as_str()))
 }
 
-/// A run on these words and this script ends well, and its output has this text.
+/// A run on these words and this script ends with status 0, and its output contains this text.
 fn has_text<R: Host>(rt: &R, alloc: Global, (words, script): (&[&str], &str), wanted: &str) {
     let told = outcome_of(rt, alloc, words, script.as_bytes()).expect(rt, "a run");
     let text = told.text();
@@ -94,7 +94,7 @@ fn ten_frames_of_15_000_bytes_go_out(rt: HostRuntime) {
     has_text(&rt, rt.alloc(), (LONG, LONG_SCRIPT), TEN)
 }
 
-/// So many workers print the crowd so.
+/// With `workers` workers, the crowd has this output.
 fn forwards_crowd<R: Host>(rt: &R, alloc: Global, workers: u32, (script, printed): (&str, &str)) {
     let count = format!(in alloc; "{workers}").expect(rt, "memory");
     let words = ["forward", "--pairs", "8", "--workers", count.as_str()];

@@ -1,4 +1,4 @@
-//! From captures to lines.
+//! The command `from-capture`.
 
 use crate::tests::forward::captured::{
     AT_0, AT_1, BIG_NANOS, BIG_SOME, BYTES, Content, HEADER, LETTERS, RAW, Refusing, SHORT,
@@ -33,30 +33,42 @@ const PLACED: &[(&str, &str, &[u8])] = &[
 
 const WORDS: &[&str] = &["from-capture", "0", "0"];
 
-/// Captures in another order and unit, and of no record.
+/// Captures in another byte order and time unit, and without a record.
 const OTHERS: &[Writing] = &[
     (
         &["from-capture", "1", "2"],
         &[BIG_NANOS, BIG_SOME, LETTERS],
         &[b"1 2 6162636465666768696a6b6c6d6e\n"],
     ),
+    (
+        &["from-capture", "1", "2"],
+        &[BLOCKS, LETTERS, PADDED],
+        &[b"1 2 6162636465666768696a6b6c6d6e\n"],
+    ),
     (WORDS, &[HEADER], &[b""]),
 ];
 
-/// The beginning of a pcapng file.
+/// A pcapng file up to the data of its packet: section header, Ethernet interface, and the head of an enhanced packet block.
+const BLOCKS: &[u8] =
+    b"\x0a\x0d\x0d\x0a\x1c\0\0\0\x4d\x3c\x2b\x1a\x01\0\0\0\xff\xff\xff\xff\xff\xff\xff\xff\x1c\0\0\0\x01\0\0\0\x14\0\0\0\x01\0\0\0\0\0\0\0\x14\0\0\0\x06\0\0\0\x30\0\0\0\0\0\0\0\0\0\0\0\0\0\0\0\x0e\0\0\0\x0e\0\0\0";
+
+/// The padding of 14 bytes of data, and the end of the block.
+const PADDED: &[u8] = b"\0\0\x30\0\0\0";
+
+/// The beginning of a pcapng file, whose first block has 132 bytes.
 const NEXT: &[u8] =
     b"\x0a\x0d\x0d\x0a\x84\0\0\0\x4d\x3c\x2b\x1a\x01\0\0\0\xff\xff\xff\xff\xff\xff\xff\xff";
 
-/// A header of a record of 13 bytes, and a frame of as many.
+/// The header of a record of 13 bytes, and a frame of as many.
 const SMALL: &[u8] = b"\0\0\0\0\0\0\0\0\x0d\0\0\0\x0d\0\0\0";
 
 const THIRTEEN: &[u8] = b"abcdefghijklm";
 
-const NOT_CAPTURE: &str = "refused 91 not a capture in classic pcap (pcapng is not read)\n";
+const NOT_CAPTURE: &str = "refused 91 not a capture in pcap or pcapng\n";
 
 const REFUSED: &[Refusing] = &[
     (&[], NOT_CAPTURE),
-    (&[NEXT, AT_0, LETTERS], NOT_CAPTURE),
+    (&[NEXT, AT_0, LETTERS], "record 1: refused 93 cut short\n"),
     (&[RAW, AT_0, LETTERS], "refused 92 link type\n"),
     (
         &[HEADER, AT_0, THIRTEEN],
@@ -80,7 +92,7 @@ const REFUSED: &[Refusing] = &[
     ),
 ];
 
-/// The frames are these lines at a port and a queue.
+/// At a port and a queue, the frames are these lines.
 fn are_placed<R: Host>(rt: &R, alloc: Global, (port, queue): (&str, &str), lines: &[u8]) {
     let words = ["from-capture", port, queue];
     let capture: Content = &[HEADER, AT_0, LETTERS, AT_1, BYTES];

@@ -1,4 +1,4 @@
-//! The help of `forward`, words that are wrong, and refusals.
+//! The help of `forward`, mistaken words, and refusals.
 
 use crate::tests::runs::outcome_of;
 use crate::tests::told::{Page, each_has_page, has_line};
@@ -10,7 +10,7 @@ use wire_script::ScriptError::{self, Bytes, Fields, FrameLength, Port, Queue, To
 
 const HELP: &[&str] = &["forward", "--help"];
 
-/// What help has to say: an option with its range and default in each line, and the examples.
+/// Texts that help must contain: each option with its range and default, and the examples.
 const LINES: &[&str] = &[
     "--pairs <N>",
     "1 to 8 [default: 1]",
@@ -38,7 +38,7 @@ const LINES: &[&str] = &[
     "prints 1 0 0506050505050505050505050505\n",
 ];
 
-/// Words that are wrong, and what has to be told of them.
+/// Mistaken words, and a text that the error must contain.
 const WRONG: &[(&[&str], &str)] = &[
     (&["forward", "--ring", "eight"], "eight"),
     (&["forward", "--pairs", "4294967296"], "4294967296"),

@@ -1,4 +1,4 @@
-//! With `--progress` it is shown how far it is, and the output is the same.
+//! `--progress` shows the progress, and does not change the output.
 
 use crate::tests::forward::forty::{forty, forty_words};
 use crate::tests::runs::{Host, Told, outcome_of, outcome_on};
@@ -7,14 +7,14 @@ use crate::tests::wanted::same;
 use std::alloc::Global;
 use std::process::Abort;
 
-/// What is shown at last of the 40 frames, before the rate.
+/// The last progress line of the 40 frames, up to the rate.
 const LINE: &str = "offered 40 of 40 taken 40 posted 40 per-second ";
 
 const ANEW: &str = "\r\u{1b}[Koffered 40 of 40 taken 40 posted 40 per-second ";
 
 const OBJECT: &str = "{\"offered\":40,\"frames\":40,\"taken\":40,\"posted\":40,\"per_second\":";
 
-/// Options, whether the screen is a terminal, and what is shown at last before and behind the rate.
+/// Options, whether the screen is a terminal, and the last progress line before and after the rate.
 type Shown = (&'static [&'static str], bool, &'static str, &'static str);
 
 const SHOWN: &[Shown] = &[
@@ -57,8 +57,8 @@ fn are_alike<R: Abort>(rt: &R, told: &Told, dark: &Told) {
     same(rt, (told.status, told.faults()), (0, ""));
 }
 
-/// With these options the output is the same with `--progress` and without it, and the last line shown is this one, with
-/// digits and its end behind it.
+/// With these options, `--progress` does not change the output, and the last line shown is this one, followed by digits
+/// and this end.
 fn shows<R: Host>(rt: &R, alloc: Global, script: &[u8], (options, is_terminal, last, end): Shown) {
     let dark = run_dark(rt, alloc, options, script);
     let told = run_shown(rt, alloc, options, script, is_terminal);
@@ -76,7 +76,7 @@ fn with_progress_the_output_is_the_same(rt: HostRuntime) {
     }
 }
 
-/// Words with a faulty script, or that are wrong themselves, and the end of what is told of them.
+/// Words with a faulty script, and mistaken words, with the end of the error.
 const REFUSED: &[(&[&str], &str)] = &[
     (&["forward", "--progress"], "line 1: refused 71 fields\n"),
     (&["forward", "--pairs", "--progress"], "\n"),

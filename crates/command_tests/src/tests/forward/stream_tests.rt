@@ -1,4 +1,4 @@
-//! Streams that fail, and want of memory.
+//! Failing streams and allocations.
 
 use crate::tests::failing::{each_beginning, each_cut, is_refused};
 use crate::tests::forward::forty::{FORTY_WORDS, forty, forty_forwarded};
@@ -13,7 +13,7 @@ const WORDS: &[&str] = &["forward"];
 
 const SCRIPT: &str = "0 0 fill 14 05\n";
 
-/// What it prints.
+/// The output of the script.
 const PRINTED: &str =
     "1 0 0506050505050505050505050505\nflow 0 0 offered 1 stored 1 dropped 0 oversize 0 taken 1 posted 1 tx-dropped 0 wire 1 left 0 ended drained\nflow 1 0 offered 0 stored 0 dropped 0 oversize 0 taken 0 posted 0 tx-dropped 0 wire 0 left 0 ended drained\n";
 
@@ -23,7 +23,7 @@ fn an_output_that_fails_has_a_beginning(rt: HostRuntime) {
     each_beginning(&rt, rt.alloc(), (WORDS, SCRIPT), PRINTED.as_bytes(), &rooms)
 }
 
-/// Words, and what can be read of the input.
+/// Words, and the part of the input that can be read.
 const CUT: &[(&[&str], &[u8])] = &[
     (WORDS, b""),
     (WORDS, b"0 0 fill 14 05\n"),
@@ -35,7 +35,7 @@ fn an_input_that_fails_in_mid_stream_is_refused(rt: HostRuntime) {
     each_cut(&rt, rt.alloc(), CUT)
 }
 
-/// With so many pieces written of the 40 frames, these are the output.
+/// When `pieces` pieces of the output of the 40 frames can be written, these are written.
 fn stops_writing<R: Host>(rt: &R, alloc: Global, (script, printed): (&str, &str), pieces: usize) {
     let mut input = script.as_bytes();
     let mut output = Narrow::of_pieces(alloc, pieces);
@@ -55,7 +55,7 @@ fn each_write_that_fails_leaves_a_beginning(rt: HostRuntime) {
     }
 }
 
-/// With so many pieces read of the 40 frames, nothing is the output.
+/// When only `pieces` pieces of the script of the 40 frames can be read, nothing is written.
 fn stops_reading<R: Host>(rt: &R, alloc: Global, script: &str, pieces: usize) {
     let mut input = Halting {
         left: script.as_bytes(),
@@ -75,7 +75,7 @@ fn each_read_that_fails_is_refused(rt: HostRuntime) {
     }
 }
 
-// With any one allocation refused, as `rt try --test --fail-alloc N` does, this passes too.
+// This also passes when any one allocation fails, as with `rt try --test --fail-alloc N`.
 #[test]
 fn want_of_memory(rt: HostRuntime) {
     let mut input = SCRIPT.as_bytes();

@@ -1,17 +1,17 @@
-//! From lines to captures, and back.
+//! The command `to-capture`, and the way back.
 
 use crate::tests::forward::captured::{
     AT_0, AT_1, AT_2, BIG_NANOS, BIG_SOME, BYTES, Content, FIVES, HEADER, LETTERS, Refusing,
     Writing, each_is_refused, each_writes, is_piped,
 };
 
-/// Lines of both ports and of counts, the last without an end.
+/// Lines of both ports and of flows, the last without a line end.
 const LINES: &[u8] =
     b"1 3 6162636465666768696a6b6c6d6e\n0 0 00010a0d23667f80feff0000000a\nflow 0 0 offered\n1 0 00010a0d23667f80feff0000000a\n1 3 6162636465666768696a6b6c6d6e\nflow \nflow 1";
 
 const WORDS: &[&str] = &["to-capture", "1"];
 
-/// Lines as captures: those of a port's frames, in their order.
+/// Lines, and the captures of one port's frames, in order.
 const WRITTEN: &[Writing] = &[
     (&["to-capture", "0"], &[LINES], &[HEADER, AT_0, BYTES]),
     (
@@ -19,14 +19,14 @@ const WRITTEN: &[Writing] = &[
         &[LINES],
         &[HEADER, AT_0, LETTERS, AT_1, BYTES, AT_2, LETTERS],
     ),
-    // of no frame
+    // no frame
     (WORDS, &[b""], &[HEADER]),
     (WORDS, &[b"\n"], &[HEADER]),
     (WORDS, &[b"flow 0 0\n"], &[HEADER]),
     (WORDS, &[b"0 0 fill 14 05\n"], &[HEADER]),
 ];
 
-/// Texts that are refused, and why: line numbers count the lines that are passed over.
+/// Refused texts, and why. Line numbers also count skipped lines.
 const REFUSED: &[Refusing] = &[
     (&[b"0 0"], "line 1: refused 71 fields\n"),
     (&[b"flow 0 0\n# no\n\n0 0\n"], "line 4: refused 71 fields\n"),

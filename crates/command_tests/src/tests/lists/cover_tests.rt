@@ -1,38 +1,38 @@
-//! What is printed of lists that together meet all that a queue can do.
+//! The printed text of lists that together cover all that a queue can do.
 
 use crate::tests::lists::QUEUES;
 use crate::tests::streams::Narrow;
 use crate::tests::wanted::{holds, same};
-use commands::replay_text;
+use commands::{NOTES, replay_text};
 use cover_command::{CoverRequest, answer};
 use ring_machine::Completion;
 use std::alloc::Global;
 use std::process::Abort;
 use std::str;
 
-/// Of silicon's moves alone, so that the searches are short.
+/// Only silicon's moves, so that the searches are short.
 const REQUEST: CoverRequest = CoverRequest {
     completion: Completion::Status,
-    expect: true,
+    expect: Some(NOTES),
     device_only: true,
 };
 
-/// How its output begins and ends.
+/// The beginning and the end of its output.
 const FIRST: &str = "# r0 A4 driver On controller serving: not enabled\nr0 A4\n# end\n";
 
 const LAST: &str =
     "# t0 B8 driver On controller serving: buffer\nt0 B1 0 60 1 1 60\nt0 B2\nt0 B3\nt0 B4\nt0 B5\nt0 B6\nt0 B7\nt0 B8\n# end\n";
 
-/// How many lists a text has.
+/// Number of lists in a text.
 fn lists_in(text: &str) -> usize {
     text.lines().filter(|line| *line == "# end").count()
 }
 
-/// What is expected of the first list, by hand.
+/// The first list with its expected text, written by hand.
 const FIRST_EXPECTED: &str =
     "# r0 A4 driver On controller serving: not enabled\nr0 A4\n# end\nr0 A4 not enabled\nmoves 0 of 1\n";
 
-/// What is expected of the last list is what `replay` prints of it.
+/// The expected text of the last list is the output of `replay`.
 fn ends_with_last<R: Abort>(rt: &R, alloc: Global, text: &str) {
     let page = replay_text(alloc, QUEUES, &mut LAST.as_bytes()).expect(rt, "a page");
     let front = text.strip_suffix(page.as_str()).expect(rt, "this page");
@@ -41,7 +41,7 @@ fn ends_with_last<R: Abort>(rt: &R, alloc: Global, text: &str) {
 
 const SEARCHED: &str = "r0 states 1000 of 1568 steps 7890 pairs 13\n";
 
-/// The text begins and ends as is expected, and has 17 lists.
+/// The text begins and ends as expected, and has 17 lists.
 fn has_lists<R: Abort>(rt: &R, alloc: Global, text: &str) {
     holds(rt, text.starts_with(FIRST_EXPECTED));
     ends_with_last(rt, alloc, text);

@@ -1,4 +1,4 @@
-//! What a list of moves has.
+//! The moves of drawn lists.
 
 use crate::tests::wanted::{holds, same};
 use coverage::is_data;
@@ -18,7 +18,7 @@ const PLAN: SchedulePlan = SchedulePlan {
     device_only: false,
 };
 
-/// What is counted of moves.
+/// The kinds of moves that are counted.
 const REFUSED: usize = 0;
 
 const INNER: usize = 1;
@@ -37,7 +37,7 @@ const RENEWED: usize = 7;
 
 const KINDS: usize = 8;
 
-/// As what a move is counted.
+/// The kind of a move.
 fn kind_of(d: &Drawn) -> Option<usize> {
     if !d.happens {
         return Some(REFUSED);
@@ -68,7 +68,7 @@ fn count(counts: &mut [usize; KINDS], drawn: &[Drawn]) {
     }
 }
 
-/// What is counted of so many lists of a seed.
+/// Counts the moves of the first lists of a seed.
 fn counted<R: Abort>(
     rt: &R,
     alloc: Global,
@@ -84,7 +84,7 @@ fn counted<R: Abort>(
     counts
 }
 
-/// The moves, one a line.
+/// The moves, one per line.
 fn lines_of(alloc: Global, drawn: &[Drawn]) -> Result<String, AllocError> {
     let mut text = String::new(alloc);
     for d in drawn {
@@ -122,7 +122,7 @@ const BEGINNINGS: &[(bool, Completion)] = &[
     (true, Completion::Head),
 ];
 
-/// How many pairs there are, and how long rings.
+/// Number of pairs, and ring length.
 const QUEUES: &[(u32, u32)] = &[(1, 8), (3, 64), (8, 4096)];
 
 /// Each of 1,000 moves happens on such queues.
@@ -155,7 +155,7 @@ fn each_move_happens(rt: HostRuntime) {
     }
 }
 
-/// How many of a hundred moves may be refused, and at least and at most how many of 1,000 are.
+/// The percentage of moves that may be refused, and the least and the most that are refused of 1,000.
 const LEAVES: &[(u32, usize, usize)] = &[(1, 9, 10), (10, 90, 100), (30, 250, 300)];
 
 fn are_refused<R: Abort>(rt: &R, alloc: Global, (refused, least, most): (u32, usize, usize)) {
@@ -171,7 +171,7 @@ fn as_many_are_refused_as_may_be(rt: HostRuntime) {
     }
 }
 
-/// What is counted of ten lists, and that it is more than this.
+/// Kinds of moves, each with a count that ten lists exceed.
 const STATES: &[(usize, usize)] = &[
     (INNER, 100),
     (TAKEN, 500),
@@ -223,10 +223,10 @@ fn a_device_of_silicon_has_only_data(rt: HostRuntime) {
     }
 }
 
-/// Queues that there can't be.
+/// Queues that cannot exist.
 const NO_QUEUES: &[(u32, u32)] = &[(0, 8), (9, 8), (1, 0), (1, 4), (1, 12), (1, 8192)];
 
-/// How many moves a list has, or the number of its refusal.
+/// The number of moves of a list, and the number of its refusal.
 fn answer(alloc: Global, plan: &SchedulePlan) -> (usize, u8) {
     match draw(alloc, plan, 0, 0) {
         Ok(drawn) => (drawn.len(), 0),
@@ -251,7 +251,7 @@ fn queues_that_cannot_be_are_refused(rt: HostRuntime) {
     }
 }
 
-// With any one allocation refused, as `rt try --test --fail-alloc N` does, this passes too.
+// This also passes when any one allocation fails, as with `rt try --test --fail-alloc N`.
 #[test]
 fn want_of_memory(rt: HostRuntime) {
     let told = answer(rt.alloc(), &PLAN);

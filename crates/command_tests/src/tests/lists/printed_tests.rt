@@ -1,9 +1,9 @@
-//! What is printed of lists.
+//! The printed text of lists.
 
 use crate::tests::lists::QUEUES;
 use crate::tests::streams::Narrow;
 use crate::tests::wanted::{holds, same};
-use commands::replay_text;
+use commands::{NOTES, replay_text};
 use ring_machine::Completion;
 use schedule_command::{ScheduleRequest, answer};
 use schedules::SchedulePlan;
@@ -24,14 +24,14 @@ const REQUEST: ScheduleRequest = ScheduleRequest {
     plan: PLAN,
     seed: 1,
     count: 2,
-    expect: false,
+    expect: None,
 };
 
-/// What it prints.
+/// The output of that request.
 const LISTS: &str =
     "r0 A1 50788\nt0 B1 4685 14 0 0 31\nt0 B1 44665 17 1 1 31\nt0 B7\n# end\nt0 B1 13746 22 1 1 22\nt0 B1 31314 1187 0 0 1243\nr0 A1 16182\nt0 B7\n# end\n";
 
-/// What is printed, for a request that is done.
+/// The output of a request that succeeds.
 fn printed<A: Abort>(rt: &A, alloc: Global, request: &ScheduleRequest) -> String {
     let (mut output, mut faults) = (Vec::new(alloc), Vec::new(alloc));
     let status = answer(alloc, request, &mut output, &mut faults);
@@ -45,18 +45,18 @@ fn lists_stand_one_behind_another(rt: HostRuntime) {
     same(&rt, text.as_str(), LISTS);
 }
 
-/// One list, and with what is expected of it.
+/// One list, with its expected text.
 const ONE: ScheduleRequest = ScheduleRequest {
     count: 1,
     ..REQUEST
 };
 
 const ONE_EXPECTED: ScheduleRequest = ScheduleRequest {
-    expect: true,
+    expect: Some(NOTES),
     ..ONE
 };
 
-/// What is printed behind a list is what `replay` prints of it.
+/// The expected text after a list is the output of `replay`.
 fn is_expected<A: Abort>(rt: &A, alloc: Global, list: &str, whole: &str) {
     let page = replay_text(alloc, QUEUES, &mut list.as_bytes()).expect(rt, "a page");
     same(rt, whole.strip_prefix(list), Some(page.as_str()));
@@ -81,7 +81,7 @@ fn no_list_is_nothing(rt: HostRuntime) {
     same(&rt, text.as_str(), "");
 }
 
-/// A request is refused with this line, and with this output in so much room.
+/// A request is refused with this line, and with this output when there is room for `room` bytes.
 fn is_refused<A: Abort>(
     rt: &A,
     alloc: Global,

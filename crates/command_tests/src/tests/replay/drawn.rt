@@ -1,15 +1,15 @@
-//! Lists of moves with what `replay --picture` prints of them.
+//! Lists of moves with the output of `replay --picture`.
 
 use crate::tests::replay::transcripts::{Transcript, each_is_so};
 
-/// The places from the fourth on, of a ring of 8 that has nothing there.
+/// The places from the fourth on, of a ring of 8 that is empty there.
 const EMPTY: &str = "3\t-\tdrv\tany\t-\n\
      4\t-\tdrv\tany\t-\n\
      5\t-\tdrv\tany\t-\n\
      6\t-\tdrv\tany\t-\n\
      7\t-\tdrv\tany\t-\n";
 
-/// Each move's queue and the last move's alone, of both directions, a longer ring, no queue and no move.
+/// Pictures after each move and after the last move, for both directions, a longer ring, no queue and no move.
 const PICTURES: &[Transcript] = &[
     // a buffer is posted and published; the third move has no queue
     (
@@ -51,7 +51,7 @@ const PICTURES: &[Transcript] = &[
             "moves 8 of 8\n",
         ],
     ),
-    // of a ring of 16 there are only the places where something stands, and those beside them
+    // a ring of 16 shows only the places that are in use, and their neighbours
     (
         &["replay", "--ring", "16", "--registers", "--picture=last"],
         &[
@@ -68,7 +68,7 @@ const PICTURES: &[Transcript] = &[
              moves 2 of 2\n",
         ],
     ),
-    // the last move's queue isn't there
+    // the last move's queue does not exist
     (
         &["replay", "--picture=last"],
         &[

@@ -1,8 +1,8 @@
-//! Lists of moves with what `replay` prints of them.
+//! Lists of moves with the output of `replay`.
 
 use crate::tests::replay::transcripts::{Transcript, each_is_so};
 
-/// Two frames of which the second asks for a report are posted and sent, up to the report; and what is made behind it.
+/// Two frames are posted and sent, up to the report that the second asks for; and the moves after it.
 const TWO_POSTED: &str = "t0 B1 1 60 1 0 60: place 0\n\
      t0 B1 2 60 1 1 60: place 1\n\
      t0 B2: tail 2\n\
@@ -18,7 +18,7 @@ const TWO_CLEANED: &str = "t0 B7: reported 1\n\
      t0 B8: not enabled\n\
      moves 12 of 13\n";
 
-/// The same of one frame, whose report is looked for before.
+/// The same for one frame, whose report is looked for too early.
 const ONE_POSTED: &str = "t0 B1 7 60 1 1 60: place 0\n\
      t0 B2: tail 1\n\
      t0 B7: none\n\
@@ -31,7 +31,7 @@ const ONE_CLEANED: &str = "t0 B7: reported 0\n\
      t0 B8: buffer 7\n\
      moves 10 of 10\n";
 
-/// Lists of frames that are received and sent: each that a table of the machine's moves gives.
+/// Lists of frames that are received and sent, from the table of the machine's moves.
 const FRAMES: &[Transcript] = &[
     // one frame is received
     (
@@ -78,7 +78,7 @@ const FRAMES: &[Transcript] = &[
              moves 7 of 8\n",
         ],
     ),
-    // a queue that is not there
+    // a queue that does not exist
     (
         &["replay"],
         &[
@@ -126,7 +126,7 @@ fn lists_of_moves_of_frames_are_answered(rt: HostRuntime) {
     each_is_so(&rt, rt.alloc(), FRAMES)
 }
 
-/// A disabling is asked in the middle of a frame.
+/// A disabling is requested in the middle of a frame.
 const MIDDLE: &str = "r0 A1 1: place 0\n\
      r0 A1 2: place 1\n\
      r0 A2: tail 2\n\
@@ -148,7 +148,7 @@ const MIDDLE: &str = "r0 A1 1: place 0\n\
      r0 C6: buffer 2\n\
      r0 C6: not enabled\n";
 
-/// The queue is renewed behind it, and receives a frame.
+/// The queue is then renewed, and receives a frame.
 const RENEWED: &str = "r0 C9: head 0\n\
      r0 C10: tail 0\n\
      r0 C11: quiet 0\n\
@@ -164,9 +164,9 @@ const RENEWED: &str = "r0 C9: head 0\n\
      r0 A6: buffer 9 length 60 eop 1\n\
      moves 29 of 33\n";
 
-/// And of queues that are enabled, disabled and renewed.
+/// Lists for queues that are enabled, disabled and renewed.
 const EPOCHS: &[Transcript] = &[
-    // a disabling is asked in the middle of a frame
+    // a disabling is requested in the middle of a frame
     (&["replay"], &[MIDDLE, "moves 16 of 20\n"]),
     // a queue is enabled and disabled
     (
@@ -186,7 +186,7 @@ const EPOCHS: &[Transcript] = &[
     ),
     // a queue is renewed
     (&["replay"], &[MIDDLE, RENEWED]),
-    // a transmit queue is disabled within a frame; the report that is owed comes first
+    // a transmit queue is disabled within a frame; the owed report comes first
     (
         &["replay"],
         &[

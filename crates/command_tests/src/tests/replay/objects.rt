@@ -1,10 +1,10 @@
-//! Lists of moves with the objects that `replay --json` prints of them.
+//! Lists of moves with the objects of `replay --json`.
 
 use crate::tests::replay::transcripts::{Transcript, each_is_so};
 
-/// Each kind of note, a move that there isn't, and the count.
+/// Each kind of note, a move that does not happen, and the count.
 const OBJECTS: &[Transcript] = &[
-    // one frame is received, each move told by an object
+    // one frame is received, with an object for each move
     (
         &["replay", "--json"],
         &[
@@ -37,7 +37,7 @@ const OBJECTS: &[Transcript] = &[
              {\"made\":9,\"read\":9}\n",
         ],
     ),
-    // control values, and a queue that isn't there
+    // control values, and a queue that does not exist
     (
         &["replay", "--off", "--json"],
         &[

@@ -1,8 +1,8 @@
-//! Lists of moves with what `replay --registers` prints of them.
+//! Lists of moves with the output of `replay --registers`.
 
 use crate::tests::replay::transcripts::{Transcript, each_is_so};
 
-/// Both directions, a move that there isn't, a queue that isn't there, and objects.
+/// Both directions, a move that does not happen, a queue that does not exist, and objects.
 const REGISTERS: &[Transcript] = &[
     // one frame is received
     (

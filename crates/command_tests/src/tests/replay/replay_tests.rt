@@ -1,11 +1,11 @@
-//! Lists of moves that are refused, long, or made on queues of every length and number.
+//! Refused lists of moves, long lists, and lists on queues of every length and number.
 
 use crate::tests::runs::{Host, outcome_of};
 use crate::tests::told::{comes_to_text, joined, times};
 use crate::tests::wanted::same;
 use std::alloc::{AllocError, Global};
 
-/// A list of moves, and the number of its first line that is no move.
+/// A list of moves, and its refusal, with the number of its first faulty line.
 const FAULTY: &[(&str, &str)] = &[
     ("r0 A1 5\nr0 A9\n", "line 2: refused 14 move\n"),
     ("# r0 A9\n\nr0 A9", "line 3: refused 14 move\n"),
@@ -25,7 +25,7 @@ const FAULTY: &[(&str, &str)] = &[
     ("r0 A2\r", "line 1: refused 14 move\n"),
 ];
 
-/// Words of queues that there can't be.
+/// Words for queues that cannot exist.
 const NO_QUEUES: &[&[&str]] = &[
     &["replay", "--ring", "12"],
     &["replay", "--ring", "4"],
@@ -36,7 +36,7 @@ const NO_QUEUES: &[&[&str]] = &[
     &["replay", "--ring", "4", "--pairs", "9"],
 ];
 
-/// Each lawful length, and how a list of as many posts ends: the last has no room.
+/// Each lawful length, and the end of the output of as many posts: the last has no room.
 const RINGS: &[(&str, usize, &str)] = &[
     ("8", 8, " A1 not enabled\nmoves 7 of 8\n"),
     ("16", 16, " A1 not enabled\nmoves 15 of 16\n"),
@@ -50,7 +50,7 @@ const RINGS: &[(&str, usize, &str)] = &[
     ("4096", 4096, " A1 not enabled\nmoves 4095 of 4096\n"),
 ];
 
-/// Each number of pairs, a post on the last of them, and a move on the next with what is told of it.
+/// Each number of pairs, a post on the last pair, and a move on the next one with its output.
 const PAIRS: &[(&str, &str, &str, &str)] = &[
     (
         "1",
@@ -106,7 +106,7 @@ fn empty_lines_and_comments_are_passed_over(rt: HostRuntime) {
     comes_to_text(&rt, rt.alloc(), REPLAY, input, wanted)
 }
 
-/// Each list is refused with its line by a run on these words.
+/// A run on these words refuses each list with its line.
 fn each_is_refused<R: Host>(rt: &R, alloc: Global, words: &[&str], rows: &[(&str, &str)]) {
     for (input, faults) in rows {
         comes_to_text(rt, alloc, words, input, ("", faults));
@@ -118,7 +118,7 @@ fn a_line_that_is_no_move_is_refused_with_its_number(rt: HostRuntime) {
     each_is_refused(&rt, rt.alloc(), REPLAY, FAULTY)
 }
 
-/// A list, and one with a faulty line, on queues that there can't be.
+/// A list, and one with a faulty line, on queues that cannot exist.
 const FIRST_FAULTS: &[(&str, &str)] = &[
     ("r0 A2\n", "refused 12 ring length\n"),
     ("r0 A2\nr0 A9\n", "line 2: refused 14 move\n"),
@@ -131,7 +131,7 @@ fn queues_that_cannot_be_are_refused_after_a_faulty_line(rt: HostRuntime) {
     }
 }
 
-/// The list of a disabling in the middle of a frame, without the asking of the disabling.
+/// The list of a disabling in the middle of a frame, without the move that requests it.
 const MIDDLE: &[&str] = &[
     "r0 A1 1\n",
     "r0 A1 2\n",
@@ -154,7 +154,7 @@ const MIDDLE: &[&str] = &[
     "r0 C6\n",
 ];
 
-/// How the list ends where the disabling is asked before its first move, its second, and so on to its end.
+/// The end of the output when the disabling is requested before each move, and at the end of the list.
 const ENDS: &[(usize, &str)] = &[
     (0, "\nmoves 6 of 20\n"),
     (1, "\nmoves 8 of 20\n"),
@@ -178,7 +178,7 @@ const ENDS: &[(usize, &str)] = &[
     (19, "\nmoves 14 of 20\n"),
 ];
 
-/// The list of a disabling in the middle of a frame, with the asking before its move at this index, or at its end.
+/// The list of a disabling in the middle of a frame, with the request before the move at this index, or at the end.
 fn asked_at(alloc: Global, at: usize) -> Result<String, AllocError> {
     let (front, back) = MIDDLE.split_at(at.min(MIDDLE.len()));
     let mut text = joined(alloc, front)?;
@@ -187,7 +187,7 @@ fn asked_at(alloc: Global, at: usize) -> Result<String, AllocError> {
     Ok(text)
 }
 
-/// A list ends well, and so.
+/// The output of a list ends with this text, with status 0.
 fn ends_so<R: Host>(rt: &R, alloc: Global, words: &[&str], list: &str, end: &str) {
     let told = outcome_of(rt, alloc, words, list.as_bytes()).expect(rt, "a run");
     let is_end = told.text().ends_with(end);
@@ -212,7 +212,7 @@ fn prints<R: Host>(rt: &R, alloc: Global, words: &[&str], list: &str, wanted: &s
     same(rt, (words, told.text()), (words, wanted));
 }
 
-/// Such queues are made: the last of them takes one post less than its length, and the next is not there.
+/// These queues exist: the last of them takes one post less than its length, and the next does not exist.
 fn are_made<R: Host>(
     rt: &R,
     alloc: Global,

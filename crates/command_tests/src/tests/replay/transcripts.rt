@@ -1,22 +1,21 @@
-//! What `replay` prints beneath each move that it is given.
+//! Transcripts of `replay`: each move with the output for it.
 
 use crate::tests::runs::Host;
 use crate::tests::told::{comes_to_text, joined};
 use std::alloc::{AllocError, Global};
 
-/// A run's words, and its lines, in parts since some runs share some. A line is a move with the note that is printed of it
-/// (`r0 A2: tail 1`, of which `r0 A2 tail 1` is printed) or with its object; or what is given alone, behind `> `; or what is
-/// printed alone.
+/// The words of a run, and its lines, in parts that some runs share. A line is a move with its note (`r0 A2: tail 1`,
+/// for which `r0 A2 tail 1` is printed) or with its object; or, after `> `, only input; or only output.
 pub type Transcript = (&'static [&'static str], &'static [&'static str]);
 
-/// What is given and what is printed.
+/// The input and the output of a run.
 #[derive(Drop)]
 struct Sides {
     given: String,
     printed: String,
 }
 
-/// Adds a line of these words and, behind them, this end.
+/// Adds a line with these words, followed by this end.
 fn push_line(text: &mut String, words: &[&str], end: &str) -> Result<(), AllocError> {
     for word in words {
         text.push_str(word)?;
@@ -50,7 +49,7 @@ impl Sides {
     }
 }
 
-/// The sides of a transcript.
+/// The input and the output of a transcript.
 fn sides_of(alloc: Global, parts: &[&str]) -> Result<Sides, AllocError> {
     let text = joined(alloc, parts)?;
     let mut sides = Sides {
@@ -63,7 +62,7 @@ fn sides_of(alloc: Global, parts: &[&str]) -> Result<Sides, AllocError> {
     Ok(sides)
 }
 
-/// The run of each transcript prints what stands there, and no faults.
+/// The run of each transcript prints its output, and no faults.
 pub fn each_is_so<R: Host>(rt: &R, alloc: Global, rows: &[Transcript]) {
     for (words, parts) in rows {
         let sides = sides_of(alloc, parts).expect(rt, "memory");

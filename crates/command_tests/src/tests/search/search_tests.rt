@@ -1,4 +1,4 @@
-//! A search ends, leaves nothing out, and its lists meet all that it has met.
+//! A search ends and omits nothing, and its lists meet all pairs that it has met.
 use crate::tests::search::second::{meet_along, second_search};
 use crate::tests::wanted::{holds, same};
 use coverage::{CoverList, Pair, Scope, Search, Side, is_data};
@@ -7,7 +7,7 @@ use std::alloc::Global;
 use std::collections::HashSet;
 use std::process::Abort;
 
-// All that a queue can do, from its making on.
+// All that a new queue can do.
 fn all_of(side: Side) -> Scope {
     Scope {
         side,
@@ -15,7 +15,7 @@ fn all_of(side: Side) -> Scope {
     }
 }
 
-// What an enabled queue does that a controller of silicon and its driver do too.
+// What an enabled queue can do with silicon and its driver.
 fn data_of(side: Side) -> Scope {
     Scope {
         side,
@@ -33,7 +33,7 @@ fn whole_search<A: Abort>(rt: &A, alloc: Global, scope: Scope) -> Search {
     search
 }
 
-// What the search's lists meet, by numbers.
+// The numbers of the pairs that the search's lists meet.
 fn met_by_lists<A: Abort>(rt: &A, alloc: Global, scope: Scope, search: &Search) -> HashSet<usize> {
     let lists = search.lists(alloc).expect(rt, "lists");
     let mut along = HashSet::new(alloc);
@@ -43,7 +43,7 @@ fn met_by_lists<A: Abort>(rt: &A, alloc: Global, scope: Scope, search: &Search) 
     along
 }
 
-// The search meets what the second one met, and so do its lists.
+// The search meets the pairs that the second one met, and so do its lists.
 fn has_met_all<A: Abort>(rt: &A, search: &Search, along: &HashSet<usize>, pairs: &[Pair]) {
     same(rt, search.pairs(), pairs.len());
     same(rt, along.len(), pairs.len());
@@ -53,7 +53,7 @@ fn has_met_all<A: Abort>(rt: &A, search: &Search, along: &HashSet<usize>, pairs:
     }
 }
 
-// A second search that is written differently reaches as many states and meets just the same pairs.
+// An independent second search reaches as many states and meets exactly the same pairs.
 fn is_searched_alike<A: Abort>(rt: &A, alloc: Global, scope: Scope, search: &Search, pairs: usize) {
     let along = met_by_lists(rt, alloc, scope, search);
     let second = second_search(alloc, scope).expect(rt, "a second search");
@@ -62,7 +62,7 @@ fn is_searched_alike<A: Abort>(rt: &A, alloc: Global, scope: Scope, search: &Sea
     has_met_all(rt, search, &along, second.pairs.as_slice());
 }
 
-// The search meets just what a second one meets that is written differently, and its lists meet all of it.
+// The search meets exactly the pairs of an independent second search, and its lists meet all of them.
 fn leaves_nothing_out<A: Abort>(rt: &A, alloc: Global, scope: Scope, pairs: usize) {
     let search = whole_search(rt, alloc, scope);
     holds(rt, search.is_whole());
@@ -71,7 +71,7 @@ fn leaves_nothing_out<A: Abort>(rt: &A, alloc: Global, scope: Scope, pairs: usiz
     is_searched_alike(rt, alloc, scope, &search, pairs)
 }
 
-// The same of all moves of a queue.
+// The same for all moves of a queue.
 fn leaves_no_move_out<A: Abort>(rt: &A, alloc: Global, side: Side, pairs: usize) {
     leaves_nothing_out(rt, alloc, all_of(side), pairs)
 }
@@ -95,7 +95,7 @@ fn a_transmit_queue_with_a_head_word_is_gone_over(rt: HostRuntime) {
     leaves_no_move_out(&rt, rt.alloc(), BY_HEAD, 222);
 }
 
-// These lists have silicon's moves alone.
+// These lists have only silicon's moves.
 fn are_data<A: Abort>(rt: &A, lists: &[CoverList]) {
     for list in lists {
         for action in list.moves.as_slice() {
@@ -104,7 +104,7 @@ fn are_data<A: Abort>(rt: &A, lists: &[CoverList]) {
     }
 }
 
-// Of silicon's moves alone, in each direction and either way to report.
+// Only silicon's moves, in each direction and with either way to report.
 #[test]
 fn queues_of_silicon_are_gone_over(rt: HostRuntime) {
     let alloc = rt.alloc();
@@ -116,7 +116,7 @@ fn queues_of_silicon_are_gone_over(rt: HostRuntime) {
     are_data(&rt, lists.as_slice());
 }
 
-// None of these lists is shorter than the one before it, and the last is so long.
+// None of these lists is shorter than the one before it, and the last has `last` moves.
 fn grow_to<A: Abort>(rt: &A, lists: &[CoverList], last: usize) {
     let mut before: usize = 0;
     for list in lists {
@@ -126,7 +126,7 @@ fn grow_to<A: Abort>(rt: &A, lists: &[CoverList], last: usize) {
     same(rt, before, last);
 }
 
-// Each pair is met first by as few moves as the search needs, and the lists stand by their lengths.
+// The lists are ordered by length, and the longest has 20 moves.
 #[test]
 fn lists_stand_by_length(rt: HostRuntime) {
     let alloc = rt.alloc();
@@ -136,7 +136,7 @@ fn lists_stand_by_length(rt: HostRuntime) {
     grow_to(&rt, lists.as_slice(), 20);
 }
 
-// A search that was not gone on with has met nothing, and has no list.
+// A search without a step has met nothing, and has no list.
 #[test]
 fn a_new_search_has_no_list(rt: HostRuntime) {
     let search = Search::new(rt.alloc(), all_of(Side::Receive)).expect(&rt, "a search");

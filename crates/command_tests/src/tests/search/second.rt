@@ -1,5 +1,5 @@
-//! A second search, written by the table of moves in the documents and without the machine: a queue is the list of what
-//! is out, and its states are gone over depth first.
+//! A second search, written from the documented table of moves, without the machine. A queue is the list of its
+//! outstanding descriptors, and its states are searched depth first.
 use coverage::{Pair, Scope, Side, Told, moves_tried};
 use ring_machine::{
     Completion, ControlStep, ControllerState, DriverState, Move, RxStep, SegmentDescriptor,
@@ -8,12 +8,12 @@ use ring_machine::{
 use std::alloc::{AllocError, Global};
 use std::collections::HashSet;
 
-/// A descriptor that is out.
+/// An outstanding descriptor.
 #[derive(Clone, Copy)]
 struct Item {
     eop: bool,
     rs: bool,
-    /// The controller has given it back.
+    /// The controller has returned it.
     back: bool,
     /// Its report is stored.
     told: bool,
@@ -29,14 +29,14 @@ const EMPTY: Item = Item {
     seen: false,
 };
 
-/// A queue of 8: at most 7 descriptors are out, the oldest first.
+/// A queue of 8: at most 7 descriptors are outstanding, the oldest first.
 #[derive(Clone, Copy)]
 struct Queue {
     items: [Item; 7],
     out: usize,
     tail: usize,
     known: usize,
-    /// How many were given back since the head was stored, modulo 8.
+    /// Descriptors returned since the head was stored, modulo 8.
     unstored: u8,
     held: bool,
     /// The controller is in the middle of a frame.
@@ -50,7 +50,7 @@ struct Queue {
     controller: ControllerState,
 }
 
-/// A queue that nobody has touched.
+/// A new queue.
 const NEW: Queue = Queue {
     items: [EMPTY; 7],
     out: 0,
@@ -98,7 +98,7 @@ impl Queue {
         self
     }
 
-    /// How many the controller has given back.
+    /// Number of descriptors that the controller has returned.
     fn used(&self) -> usize {
         let mut used: usize = 0;
         for item in &self.items {
@@ -109,7 +109,7 @@ impl Queue {
         used
     }
 
-    /// Whether what is posted ends with a whole frame.
+    /// Whether the posted descriptors end with a whole frame.
     fn is_ended(&self) -> bool {
         self.out == 0 || self.item(self.out.saturating_sub(1)).eop
     }
@@ -151,7 +151,7 @@ impl Queue {
         }
     }
 
-    /// A queue that was disabled, with nothing out, whose driver is so far: the words stand as they were.
+    /// A disabled queue with nothing outstanding, whose driver is in this state. Its words are unchanged.
     fn bare(self, driver: DriverState) -> Queue {
         Queue {
             quiet: self.quiet,
@@ -219,7 +219,7 @@ impl Queue {
         }
     }
 
-    // What both sides have: the handshake, reclaiming, and the clearing of head and tail.
+    // The moves of both directions: the handshake, reclaiming, and the clearing of head and tail.
     fn stopped(self) -> Option<(Told, Queue)> {
         let may = self.driver.is_stopped() && self.out > 0;
         let left = self.out.saturating_sub(1);
@@ -236,7 +236,7 @@ impl Queue {
         Some((Told::Control, self.shaken(step)?))
     }
 
-    // The driver stores the tail, where it may.
+    // The driver stores the tail, if it may.
     fn published(self, may: bool) -> Option<(Told, Queue)> {
         let told = (
             Told::Tail,
@@ -248,7 +248,7 @@ impl Queue {
         (self.driver.is_open() && may).then_some(told)
     }
 
-    // The controller loads it.
+    // The controller loads the tail.
     fn tail_seen(self, told: Told) -> Option<(Told, Queue)> {
         let seen = Queue {
             known: self.tail,
@@ -257,7 +257,7 @@ impl Queue {
         self.is_serving().then_some((told, seen))
     }
 
-    // And fetches what is next, where it may.
+    // The controller fetches the next descriptor, if it may.
     fn fetched(self, told: Told, may: bool) -> Option<(Told, Queue)> {
         let held = Queue { held: true, ..self };
         (self.can_fetch() && may).then_some((told, held))
@@ -413,7 +413,7 @@ impl Queue {
         )
     }
 
-    // The driver loads the oldest report that is outstanding.
+    // The driver loads the oldest outstanding report.
     fn looked(self) -> Option<(Told, Queue)> {
         if !self.driver.is_live() {
             return None;
@@ -443,7 +443,7 @@ impl Queue {
         }
     }
 
-    /// The pair that is met where it is asked for a move, and tells this.
+    /// The pair that is met when this queue is asked for a move and answers this.
     fn pair(&self, action: Move, told: Told) -> Pair {
         Pair {
             action,
@@ -473,8 +473,7 @@ impl Queue {
     }
 }
 
-/// Whether no controller of silicon and its driver make this move: a handshake's, of the quiet word, of reclaiming and of
-/// renewal.
+/// Whether silicon and its driver never make this move: those of the handshake, the quiet word, reclaiming and renewal.
 fn is_own(action: Move) -> bool {
     match action {
         Move::Receive(_, RxStep::Control(_)) | Move::Transmit(_, TxStep::Control(_)) => true,
@@ -486,7 +485,7 @@ fn is_own(action: Move) -> bool {
     }
 }
 
-/// Which pairs are met where these moves are made one after another on a new queue of this scope, by their numbers.
+/// Returns the numbers of the pairs that are met when these moves are made in order on a new queue of this scope.
 pub fn meet_along(
     scope: Scope,
     moves: &[Move],
@@ -504,14 +503,14 @@ pub fn meet_along(
     Ok(())
 }
 
-/// What a second search has met.
+/// The result of a second search.
 #[derive(Drop)]
 pub struct Second {
     pub pairs: Vec<Pair>,
     pub states: usize,
 }
 
-/// Goes over all states of a queue of this scope.
+/// Searches all states of a queue of this scope.
 pub fn second_search(alloc: Global, scope: Scope) -> Result<Second, AllocError> {
     let Some(moves) = moves_tried(scope.side) else {
         return Err(AllocError);

@@ -18,7 +18,7 @@ const BIG: &[u8] = b"\xa1\xb2\xc3\xd4\x00\x02\x00\x04\0\0\0\0\0\0\0\0\0\0\xff\xf
 
 const BIG_NANOS: &[u8] = b"\xa1\xb2\x3c\x4d\x00\x02\x00\x04\0\0\0\0\0\0\0\0\0\0\xff\xff\0\0\0\x01";
 
-/// Headers that are refused: of a pcapng file; of version 2.3; of raw IP; of Ethernet with checksums; of version 2.3 and
+/// Headers that are refused: of a pcapng file that ends within it; of version 2.3; of raw IP; of Ethernet with checksums; of version 2.3 and
 /// raw IP.
 const NEXT: &[u8] =
     b"\x0a\x0d\x0d\x0a\x84\0\0\0\x4d\x3c\x2b\x1a\x01\0\0\0\xff\xff\xff\xff\xff\xff\xff\xff";
@@ -148,7 +148,7 @@ const REFUSED: &[CaptureError] = &[
 ];
 
 const LINES: &str =
-    "91 None not a capture in classic pcap (pcapng is not read)\n92 None link type\n93 Some(1) cut short\n94 Some(2) captured short\n95 Some(3) frame length\n96 Some(4) too many\n97 None memory\n";
+    "91 None not a capture in pcap or pcapng\n92 None link type\n93 Some(1) cut short\n94 Some(2) captured short\n95 Some(3) frame length\n96 Some(4) too many\n97 None memory\n";
 
 #[test]
 fn refusals_have_words(rt: HostRuntime) {

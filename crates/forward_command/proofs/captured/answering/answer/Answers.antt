@@ -1,14 +1,16 @@
-use Rattle.forward_command.proofs.CaptureEndings.{script-done, script-refused, sources-refused}
+use Rattle.forward_command.specs.Streams.{outlet, streamed_port}
+use Rattle.forward_command.proofs.CaptureEndings.{ends-refused, script-done, script-refused}
 use Rattle.forward_command.proofs.captured.answering.answer.Goals as goal
 
 pub returns-in-Ok-clause-forward : goal.returns-in-Ok-clause-forward
-returns-in-Ok-clause-forward g c = λ none text known.
-    script-done c.args.config.now c.args.printing c.args.sources.now _ _ _ text none c.in-Ok.ensures.done known
+returns-in-Ok-clause-forward g c = λ none whole text known.
+    script-done c.args.config.now c.args.printing (streamed_port c.args.wires.now) c.args.sources.now _ _ _ text none whole c.in-Ok.ensures.done known
 
 pub returns-in-Err-clause-forward : goal.returns-in-Err-clause-forward
-returns-in-Err-clause-forward g c = λ none text known.
-    rw c.tell.ensures (script-refused c.args.config.now c.args.printing c.args.sources.now c.args.wires.now _ _ _ c.in-Err.refused text none c.in-Err.ensures.refused known)
+returns-in-Err-clause-forward g c = λ none whole text known.
+    rw c.tell.ensures (script-refused c.args.config.now c.args.printing (streamed_port c.args.wires.now) c.args.sources.now c.args.wires.now _ _ _ c.in-Err.refused text none whole
+    c.in-Err.ensures.refused known)
 
 pub returns-in-Err-clause-refused : goal.returns-in-Err-clause-refused
-returns-in-Err-clause-refused g c = λ some status.
-    sources-refused c.args.config.now c.args.printing c.args.sources.now c.args.wires.now _ _ _ c.in-Err.refused c.in-Err.ensures.refused
+returns-in-Err-clause-refused g c = λ status.
+    ends-refused c.args.config.now (outlet c.args.printing c.args.wires.now) c.args.sources.now c.args.wires.now _ _ _ c.in-Err.refused c.in-Err.ensures.refused

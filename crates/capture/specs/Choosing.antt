@@ -1,0 +1,90 @@
+-- What is read of the records of a capture: all, those without a fault, or the first few.
+use Rattle.std.specs.Prelude.{ℕ, suc, zero, ◌+◌, Bool, true, false, nat_lt, List, [], ◌∷◌, Option, Some, None, Result, Ok, Err}
+use Rattle.std.specs.List.{count_by, filter_map}
+use Rattle.limits.specs.declared.profile.TheConstants.{MOST_SCRIPT_FRAMES}
+use Rattle.refusals.specs.declared.errors.CaptureError.{CaptureError}
+use Rattle.refusals.specs.declared.errors.CaptureError.TheVariants.{TooMany}
+use Rattle.capture.specs.declared.entry.Entry.{Entry}
+use Rattle.capture.specs.declared.entry.Entry.TheVariants.{Frame, Faulty, Unread}
+use Rattle.capture.specs.declared.entry.Fault.TheVariants.{Truncated, Snapped, Long, Short}
+use Rattle.capture.specs.declared.options.ReadOptions.{ReadOptions}
+use Rattle.capture.specs.declared.options.Skipped.{Skipped}
+use Rattle.capture.specs.Entries.{refusal_of}
+use Rattle.capture.specs.Record.{Record}
+
+-- the records up to the n-th frame, with it
+unfoldable pub first_frames : ℕ → List Entry → List Entry
+first_frames n [] = []
+first_frames zero (e ∷ entries) = []
+first_frames (suc n) (Frame r ∷ entries) = Frame r ∷ first_frames n entries
+first_frames (suc n) (Faulty f ∷ entries) = Faulty f ∷ first_frames (suc n) entries
+first_frames (suc n) (Unread e ∷ entries) = Unread e ∷ first_frames (suc n) entries
+
+-- whether a limit leaves room for more frames than n
+abbrev pub is_below : Option ℕ → ℕ → Bool
+is_below None n = true
+is_below (Some limit) n = nat_lt n limit
+
+-- the same where there may be no limit
+abbrev pub within : Option ℕ → List Entry → List Entry
+within None entries = entries
+within (Some n) entries = first_frames n entries
+
+-- The first refusal, where the first of these is record k: a fault that is not skipped, or a frame for which there is no
+-- room.
+unfoldable pub first_refusal : Bool → ℕ → ℕ → List Entry → Option CaptureError
+first_refusal skip room k [] = None
+first_refusal skip zero k (Frame r ∷ entries) = Some (TooMany k)
+first_refusal skip (suc room) k (Frame r ∷ entries) = first_refusal skip room (k + 1) entries
+first_refusal true room k (Faulty f ∷ entries) = first_refusal true room (k + 1) entries
+first_refusal false room k (Faulty f ∷ entries) = Some (refusal_of f.fault k)
+first_refusal skip room k (Unread e ∷ entries) = Some e
+
+-- the frames among records
+abbrev pub frame_in : Entry → Option Record
+frame_in (Frame r) = Some r
+frame_in (Faulty f) = None
+frame_in (Unread e) = None
+
+abbrev pub frames_of : List Entry → List Record
+frames_of entries = filter_map frame_in entries
+
+-- how many records have each fault
+abbrev pub is_truncated : Entry → Bool
+is_truncated (Frame r) = false
+is_truncated (Unread e) = false
+is_truncated (Faulty f) = elim f.fault [ Truncated ↦ true | _ ↦ false ]
+
+abbrev pub is_snapped : Entry → Bool
+is_snapped (Frame r) = false
+is_snapped (Unread e) = false
+is_snapped (Faulty f) = elim f.fault [ Snapped ↦ true | _ ↦ false ]
+
+abbrev pub is_long : Entry → Bool
+is_long (Frame r) = false
+is_long (Unread e) = false
+is_long (Faulty f) = elim f.fault [ Long ↦ true | _ ↦ false ]
+
+abbrev pub is_short : Entry → Bool
+is_short (Frame r) = false
+is_short (Unread e) = false
+is_short (Faulty f) = elim f.fault [ Short ↦ true | _ ↦ false ]
+
+abbrev pub skipped_of : List Entry → Skipped
+skipped_of entries = record {
+  truncated = count_by is_truncated entries;
+  snapped = count_by is_snapped entries;
+  long = count_by is_long entries;
+  short = count_by is_short entries;
+}
+
+-- the value, unless there is a refusal
+abbrev pub unless : {X : Type 0} → Option CaptureError → X → Result X CaptureError
+unless None x = Ok x
+unless (Some e) x = Err e
+
+-- The frames that are read with these options, and how many records are left out for each fault; or the first refusal.
+unfoldable pub chosen : ReadOptions → List Entry → Result (List Record × Skipped) CaptureError
+chosen options entries =
+    let seen = within options.limit entries in
+    unless (first_refusal options.skip MOST_SCRIPT_FRAMES 1 seen) (frames_of seen, skipped_of seen)

@@ -1,0 +1,113 @@
+-- What clap makes of `schedules --recommended` and its options, and of any words that ask for lists that are drawn.
+use Rattle.std.proofs.Common.{◌≡◌, ◌∙◌, ap, ap₂, refl, arith, inl, inr, true, false, List, [], ◌∷◌, ◌++◌, codes, Some, None}
+use Rattle.std.specs.Prelude.{is_some, not}
+use Rattle.std.specs.Fmt.{digits}
+use Rattle.clap.specs.Words.{App, Row, Text, subcommand_of, takes}
+use Rattle.schedule_command.specs.declared.request.ScheduleRequest.{ScheduleRequest}
+use Rattle.command_line.specs.CommandLine.{IsProgram}
+use Rattle.command_line.specs.OptionWords.{is_head}
+use Rattle.command_line.specs.ScheduleWords.{HasLists, HasRecommended, SaysLists, SaysRecommended, expects_json, expects_registers, last_words}
+use Rattle.command_line.proofs.CoverWords.{IsRead, each_read}
+use Rattle.command_line.proofs.OptionRows.{both-false}
+use Rattle.command_line.proofs.Options.{Given, words_of}
+use Rattle.command_line.proofs.Options.Given.{flag, number}
+use Rattle.command_line.proofs.OptionLists.{AreLawful, HasOptions, IsSaid, all_words, is_said, options_hold, options_taken, said_of}
+use Rattle.command_line.proofs.ScheduleWords.{is_command, schedules_found, schedules_taken, shape}
+
+-- its options, with what the words say: none of those for other drawn lists
+abbrev options : (words : List Text) (request : ScheduleRequest) → SaysRecommended words request → List Given
+options words request says =
+    number (codes "seed") 4294967295 [] None
+    ∷ number (codes "moves") 4294967295 [] None
+    ∷ number (codes "count") 4294967295 (codes "1" ∷ []) None
+    ∷ number (codes "refused") 100 (codes "0" ∷ []) None
+    ∷ flag (codes "cover") false
+    ∷ flag (codes "recommended") true
+    ∷ number (codes "ring") 4294967295 (codes "8" ∷ []) (said_of _ _ _ _ _ says.says_ring)
+    ∷ number (codes "pairs") 4294967295 (codes "1" ∷ []) (said_of _ _ _ _ _ says.says_pairs)
+    ∷ flag (codes "off") (not request.plan.enabled)
+    ∷ flag (codes "head") (is_head request.plan.completion)
+    ∷ flag (codes "expect") (is_some request.expect)
+    ∷ flag (codes "json") (expects_json request.expect)
+    ∷ flag (codes "registers") (expects_registers request.expect)
+    ∷ flag (codes "device-only-real") request.plan.device_only
+    ∷ []
+
+has_options : (words : List Text) (request : ScheduleRequest) (says : SaysRecommended words request) → HasOptions (codes "schedules") shape (options words request says)
+has_options words request says = record { command = is_command; among = refl; distinct = refl; valid = λ h. refl }
+
+-- what each of its numbers says
+record Saying (words : List Text) (request : ScheduleRequest) (says : SaysRecommended words request) : Type 0 where
+  ring : IsSaid (codes "ring") 4294967295 (codes "8") says.ring request.plan.ring (said_of _ _ _ _ _ says.says_ring)
+  pairs : IsSaid (codes "pairs") 4294967295 (codes "1") says.pairs request.plan.pairs (said_of _ _ _ _ _ says.says_pairs)
+
+saying : (words : List Text) (request : ScheduleRequest) (says : SaysRecommended words request) → Saying words request says
+unfolding digits
+saying words request says = record {
+  ring = is_said (codes "ring") 4294967295 8 (codes "8") says.ring request.plan.ring (omega arith) (omega arith) refl says.says_ring;
+  pairs = is_said (codes "pairs") 4294967295 1 (codes "1") says.pairs request.plan.pairs (omega arith) (omega arith) refl says.says_pairs;
+}
+
+are_lawful : (words : List Text) (request : ScheduleRequest) (says : SaysRecommended words request) → AreLawful (options words request says)
+are_lawful words request says =
+    let are = saying words request says in
+    (tt, (tt, (tt, (tt, (tt, (tt, (are.ring.lawful, (are.pairs.lawful, (tt, (tt, (tt, (tt, (tt, (tt, tt))))))))))))))
+
+words_are : (words : List Text) (request : ScheduleRequest) (says : SaysRecommended words request) → words ≡ codes "schedules" ∷ all_words (options words request says)
+words_are words request says =
+    let are = saying words request says in
+    let begins : List Text = words_of (flag (codes "off") (not request.plan.enabled)) in
+    let head : List Text = words_of (flag (codes "head") (is_head request.plan.completion)) in
+    let behind : List Text = begins ++ (head ++ last_words request.expect request.plan.device_only) in
+    says.words_are
+    ∙ ap (λ (l : List Text). codes "schedules" ∷ codes "--recommended" ∷ l)
+    (ap₂ (λ (a b : List Text). a ++ b) are.ring.words_are (ap (λ (l : List Text). l ++ behind) are.pairs.words_are))
+
+-- ---- what clap makes of them
+
+recommended_taken : (app : App) (words : List Text) (request : ScheduleRequest) → IsProgram app → SaysRecommended words request → takes app words ≡ true
+recommended_taken app words request program says =
+    options_taken app words (codes "schedules") shape (options words request says) program (has_options words request says) (are_lawful words request says)
+    (words_are words request says)
+
+recommended_found : (app : App) (words : List Text) (request : ScheduleRequest) → IsProgram app → SaysRecommended words request
+    → (rows : List Row) × (subcommand_of app words ≡ Some (codes "schedules", rows)) × HasRecommended rows request
+recommended_found app words request program says =
+    let are = saying words request says in
+    let found = options_hold IsRead each_read app words (codes "schedules") shape (options words request says) program (has_options words request says)
+    (are_lawful words request says) (words_are words request says) in
+    let none : Given = flag [] false in (
+      found.0,
+      found.1,
+      record {
+        cover = (found.2 4 none (omega arith)).0;
+        recommended = (found.2 5 none (omega arith)).0;
+        is_recommended = says.recommended;
+        queues = record {
+          ring = record { value = (found.2 6 none (omega arith)).0 ∙ are.ring.value; fits = are.ring.fits };
+          pairs = record { value = (found.2 7 none (omega arith)).0 ∙ are.pairs.value; fits = are.pairs.fits };
+          off = (found.2 8 none (omega arith)).0;
+          head = (found.2 9 none (omega arith)).0;
+          device_only = (found.2 13 none (omega arith)).0;
+        };
+        expect = record {
+          stands = (found.2 10 none (omega arith)).0;
+          json = (found.2 11 none (omega arith)).0;
+          registers = (found.2 12 none (omega arith)).0;
+          undrawn = says.undrawn;
+        };
+        uncounted = both-false _ _ (found.2 0 none (omega arith)).1 (both-false _ _ (found.2 1 none (omega arith)).1
+            (both-false _ _ (found.2 2 none (omega arith)).1 (found.2 3 none (omega arith)).1));
+      },
+    )
+
+-- ---- lists that are drawn, by either words
+
+pub lists_taken : (app : App) (words : List Text) (request : ScheduleRequest) → IsProgram app → SaysLists words request → takes app words ≡ true
+lists_taken app words request program (inl says) = schedules_taken app words request program says
+lists_taken app words request program (inr says) = recommended_taken app words request program says
+
+pub lists_found : (app : App) (words : List Text) (request : ScheduleRequest) → IsProgram app → SaysLists words request
+    → (rows : List Row) × (subcommand_of app words ≡ Some (codes "schedules", rows)) × HasLists rows request
+lists_found app words request program (inl says) = let found = schedules_found app words request program says in (found.0, found.1, inl found.2)
+lists_found app words request program (inr says) = let found = recommended_found app words request program says in (found.0, found.1, inr found.2)

@@ -1,0 +1,81 @@
+//! The forms of what is expected of lists, and the recommended lists, by the words for them.
+
+use crate::tests::runs::{Host, outcome_of};
+use crate::tests::told::{Row, each_comes_to};
+use crate::tests::wanted::same;
+use std::alloc::Global;
+
+/// A list of two moves, and what each form prints of it, by hand.
+const FORMS: &[Row] = &[
+    Row {
+        words: &["schedules", "--seed", "1", "--moves", "2", "--expect"],
+        input: "",
+        output: "r0 A1 50788\nt0 B1 4685 14 0 0 31\n# end\nr0 A1 place 0\nt0 B1 place 0\nmoves 2 of 2\n",
+        faults: "",
+    },
+    Row {
+        words: &[
+            "schedules",
+            "--seed",
+            "1",
+            "--moves",
+            "2",
+            "--expect",
+            "--json",
+        ],
+        input: "",
+        output: "r0 A1 50788\nt0 B1 4685 14 0 0 31\n# end\n{\"move\":\"r0 A1\",\"made\":true,\"place\":0}\n{\"move\":\"t0 B1\",\"made\":true,\"place\":0}\n{\"made\":2,\"read\":2}\n",
+        faults: "",
+    },
+    Row {
+        words: &[
+            "schedules",
+            "--seed",
+            "1",
+            "--moves",
+            "2",
+            "--registers",
+            "--expect",
+        ],
+        input: "",
+        output: "r0 A1 50788\nt0 B1 4685 14 0 0 31\n# end\nr0 A1 place 0\nRDH 0 RDT 0 RXDCTL.ENABLE 1\nt0 B1 place 0\nTDH 0 TDT 0 TXDCTL.ENABLE 1\nmoves 2 of 2\n",
+        faults: "",
+    },
+];
+
+#[test]
+fn what_is_expected_has_the_form_that_is_asked_for(rt: HostRuntime) {
+    each_comes_to(&rt, rt.alloc(), FORMS)
+}
+
+/// Whether a line says that of 2,000 moves some were refused, and no more than 200.
+fn counts_two_thousand(line: &str) -> bool {
+    line.ends_with(" of 2000") && (line.starts_with("moves 18") || line.starts_with("moves 19"))
+}
+
+/// The lists of these words are four of 2,000 moves, of which at most 200 are refused.
+fn are_recommended<R: Host>(rt: &R, alloc: Global, words: &[&str]) {
+    let told = outcome_of(rt, alloc, words, b"").expect(rt, "a run");
+    let text = told.text();
+    let counts = (
+        text.lines().filter(|line| *line == "# end").count(),
+        text.lines()
+            .filter(|line| counts_two_thousand(line))
+            .count(),
+        text.lines().count(),
+    );
+    same(rt, (words, told.status, counts), (words, 0, (4, 4, 16_008)));
+}
+
+/// For both ways to report.
+const RECOMMENDED: &[&[&str]] = &[
+    &["schedules", "--recommended", "--expect"],
+    &["schedules", "--recommended", "--head", "--expect"],
+];
+
+#[test]
+fn the_recommended_lists_are_four_of_two_thousand_moves(rt: HostRuntime) {
+    for words in RECOMMENDED {
+        are_recommended(&rt, rt.alloc(), words);
+    }
+}

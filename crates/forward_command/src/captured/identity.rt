@@ -1,0 +1,46 @@
+//! Which file a path names, so that no file is named twice.
+ghost use Rattle.std.specs.Prelude.{IfErr};
+ghost use Rattle.forward_command.specs.CaptureForwards.{IsTaken};
+
+use commands::Refusal;
+use std::alloc::Global;
+use std::fs::Metadata;
+use std::os::unix::fs::{FileTypeExt, MetadataExt};
+use std::path::Path;
+use std::rt::Files;
+
+/// Which file a path names.
+#[derive(PartialEq, Eq, Drop)]
+pub(crate) enum Identity {
+    /// Standard output.
+    Output,
+    /// A file that is there: its device and its inode.
+    File { device: u64, inode: u64 },
+    /// No file yet: the absolute path, with no symbolic link in it.
+    Absent { path: String },
+}
+
+/// The identity of a file that is there. A character device has none: it may be named any number of times.
+pub(crate) fn identity_of(found: &Metadata) -> Option<Identity> {
+    if found.file_type().is_char_device() {
+        return None;
+    }
+    let (device, inode) = (found.dev(), found.ino());
+    Some(Identity::File { device, inode })
+}
+
+/// The identity of a path with no file yet, whose folder has to be there.
+pub(crate) fn absent<R: Files>(rt: &R, alloc: Global, path: &str) -> Result<Identity, Refusal>
+    ensures { IfErr result IsTaken }
+{
+    let path = Path::new(path);
+    let folder = match path.parent() {
+        Some(folder) if !folder.as_str().is_empty() => folder.as_str(),
+        _ => ".",
+    };
+    let found = rt.canonicalize(alloc, folder);
+    let mut whole = found.map_err(|_| Refusal::FileNotWritten)?;
+    whole.push(path.file_name().unwrap_or(""))?;
+    let path = whole.into_string();
+    Ok(Identity::Absent { path })
+}

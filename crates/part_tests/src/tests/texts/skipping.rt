@@ -1,0 +1,121 @@
+//! Captures that are read with options: faulty records left out and counted, and a limit.
+
+use crate::tests::wanted::same;
+use capture::{ReadOptions, read_with};
+use std::alloc::{AllocError, Global};
+use std::process::Abort;
+
+/// A little-endian header in microseconds, version 2.4, Ethernet.
+const HEADER: &[u8] = b"\xd4\xc3\xb2\xa1\x02\x00\x04\x00\0\0\0\0\0\0\0\0\xff\xff\0\0\x01\0\0\0";
+
+/// Records of 14 bytes: whole; of 15 on the wire; of 13 bytes; and one whose last byte is missing.
+const WHOLE: &[u8] = b"\x01\0\0\0\x02\0\0\0\x0e\0\0\0\x0e\0\0\0abcdefghijklmn";
+
+const SNAPPED: &[u8] = b"\x01\0\0\0\x02\0\0\0\x0e\0\0\0\x0f\0\0\0abcdefghijklmn";
+
+const SHORT: &[u8] = b"\x01\0\0\0\x02\0\0\0\x0d\0\0\0\x0d\0\0\0abcdefghijklm";
+
+const CUT: &[u8] = b"\x01\0\0\0\x02\0\0\0\x0e\0\0\0\x0e\0\0\0abcdefghijklm";
+
+/// The header of a record of 15,001 bytes.
+const LONG: &[u8] = b"\x01\0\0\0\x02\0\0\0\x99\x3a\0\0\x99\x3a\0\0";
+
+/// Parts of a file.
+type Parts = &'static [&'static [u8]];
+
+/// Whether faults are skipped, and the limit.
+type Options = (bool, Option<u32>);
+
+/// How many frames are read, and how many records are left out as truncated, snapped, long and short; or a refusal's
+/// number and its record.
+type Answer = Result<(usize, [u64; 4]), (u8, u64)>;
+
+/// With `skip` a file of a header and these parts is read to its end, and with a limit up to its last frame.
+const ROWS: &[(Parts, Options, Answer)] = &[
+    (&[], (true, None), Ok((0, [0, 0, 0, 0]))),
+    (&[WHOLE, CUT], (true, None), Ok((1, [1, 0, 0, 0]))),
+    (&[WHOLE, b"\x01"], (true, None), Ok((1, [1, 0, 0, 0]))),
+    (
+        &[SNAPPED, WHOLE, SHORT, SNAPPED, WHOLE],
+        (true, None),
+        Ok((2, [0, 2, 0, 1])),
+    ),
+    (
+        &[WHOLE, WHOLE, WHOLE],
+        (false, Some(2)),
+        Ok((2, [0, 0, 0, 0])),
+    ),
+    (
+        &[WHOLE, WHOLE, CUT],
+        (false, Some(2)),
+        Ok((2, [0, 0, 0, 0])),
+    ),
+    (&[WHOLE, SHORT, WHOLE], (false, Some(2)), Err((95, 2))),
+    (
+        &[SHORT, WHOLE, SNAPPED, WHOLE, CUT],
+        (true, Some(2)),
+        Ok((2, [0, 1, 0, 1])),
+    ),
+    (&[SHORT, WHOLE], (true, Some(0)), Ok((0, [0, 0, 0, 0]))),
+    (&[SNAPPED], (false, Some(1)), Err((94, 1))),
+];
+
+fn answer(alloc: Global, bytes: &[u8], (skip, limit): Options) -> Answer {
+    let options = ReadOptions { skip, limit };
+    match read_with(alloc, bytes, options) {
+        Ok((capture, left_out)) => {
+            let counts = [
+                left_out.truncated,
+                left_out.snapped,
+                left_out.long,
+                left_out.short,
+            ];
+            Ok((capture.records().len(), counts))
+        }
+        Err(refused) => Err((refused.number(), refused.record().unwrap_or(0))),
+    }
+}
+
+fn joined(alloc: Global, parts: &[&[u8]]) -> Result<Vec<u8>, AllocError> {
+    let mut bytes = Vec::new(alloc);
+    bytes.extend_from_slice(HEADER)?;
+    for part in parts {
+        bytes.extend_from_slice(part)?;
+    }
+    Ok(bytes)
+}
+
+fn is_answered<R: Abort>(
+    rt: &R,
+    alloc: Global,
+    (parts, options, wanted): (Parts, Options, Answer),
+) {
+    let bytes = joined(alloc, parts).expect(rt, "memory");
+    same(
+        rt,
+        (parts, answer(alloc, bytes.as_slice(), options)),
+        (parts, wanted),
+    );
+}
+
+#[test]
+fn faulty_records_are_left_out_and_counted(rt: HostRuntime) {
+    for row in ROWS {
+        is_answered(&rt, rt.alloc(), *row);
+    }
+}
+
+/// A record of 15,001 bytes, between two of 14.
+fn with_a_long_one(alloc: Global) -> Result<Vec<u8>, AllocError> {
+    let frame = [0xa5u8; 15_001];
+    joined(alloc, &[WHOLE, LONG, &frame, WHOLE])
+}
+
+#[test]
+fn a_long_frame_is_left_out(rt: HostRuntime) {
+    let bytes = with_a_long_one(rt.alloc()).expect(&rt, "memory");
+    let refused = answer(rt.alloc(), bytes.as_slice(), (false, None));
+    same(&rt, refused, Err((95, 2)));
+    let left_out = answer(rt.alloc(), bytes.as_slice(), (true, None));
+    same(&rt, left_out, Ok((2, [0, 0, 1, 0])));
+}
