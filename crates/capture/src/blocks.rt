@@ -16,7 +16,7 @@ use crate::record::CaptureRecord;
 use byteorder::{BigEndian, ByteOrder};
 use refusals::CaptureError;
 
-// The types of the blocks that are read.
+// The types of the blocks that the crate reads.
 const SECTION_HEADER: u32 = 0x0a0d_0d0a;
 
 const INTERFACE_DESCRIPTION: u32 = 1;
@@ -25,13 +25,13 @@ const SIMPLE_PACKET: u32 = 3;
 
 const ENHANCED_PACKET: u32 = 6;
 
-// The number of Ethernet among the link types.
+// The link type of Ethernet.
 const ETHERNET: u16 = 1;
 
-// The code and the length of the option of an interface's resolution.
+// The code of the option for an interface's time resolution.
 const IF_TSRESOL: u16 = 9;
 
-// A block's fixed part: type, length and length.
+// The length of a block's fixed part: type, length and repeated length.
 const AROUND_BODY: usize = 12;
 
 // Whether the bytes begin with the type of a section header.
@@ -42,7 +42,7 @@ pub fn begins_section(bytes: &[u8]) -> bool
     BigEndian::read_u32(bytes) == SECTION_HEADER
 }
 
-// The order that a magic tells.
+// The byte order for a section header's magic number.
 fn order_of(magic: u32) -> Option<Order>
     ensures { result ≡ order_of magic }
 {
@@ -53,7 +53,7 @@ fn order_of(magic: u32) -> Option<Order>
     }
 }
 
-// The order of the block that the bytes begin with.
+// The byte order of the first block in the bytes. A section header states its own.
 fn block_order(order: Order, bytes: &[u8]) -> Option<Order>
     requires { 12 ≤ length bytes.now }
     ensures { result ≡ block_order order bytes.now }
@@ -65,7 +65,7 @@ fn block_order(order: Order, bytes: &[u8]) -> Option<Order>
     }
 }
 
-// The block that the bytes begin with, and the bytes after it.
+// The first block in the bytes, and the bytes after it.
 #[tactic(auto, unfolding(crate::specs::Pcapng::block_in, crate::specs::Pcapng::block_with))]
 pub fn block_of<'a>(
     order: Order,
@@ -107,14 +107,14 @@ fn cut<'a>() -> Piece<'a>
     }))
 }
 
-// A block that is none.
+// A malformed block.
 fn unread<'a>() -> Piece<'a>
     ensures { result ≡ Packet (Unread NotCapture) }
 {
     Piece::Packet(Entry::Unread(CaptureError::NotCapture))
 }
 
-// What a whole block says.
+// The meaning of a complete block, by its type.
 #[tactic(auto, unfolding(crate::specs::Pcapng::meaning_in))]
 fn meaning_of<'a>(order: Order, interfaces: &[Interface], block: &'a [u8]) -> Piece<'a>
     requires { 12 ≤ length block.now }
@@ -131,7 +131,7 @@ fn meaning_of<'a>(order: Order, interfaces: &[Interface], block: &'a [u8]) -> Pi
     }
 }
 
-// A section header.
+// The meaning of a section header.
 #[tactic(auto, unfolding(crate::specs::Pcapng::section_in))]
 fn section_of<'a>(order: Order, block: &[u8]) -> Piece<'a>
     ensures { result ≡ section_in order block.now }
@@ -142,7 +142,7 @@ fn section_of<'a>(order: Order, block: &[u8]) -> Piece<'a>
     Piece::Section(order)
 }
 
-// An interface description.
+// The meaning of an interface description.
 #[tactic(auto, unfolding(crate::specs::Pcapng::interface_in))]
 fn interface_of<'a>(order: Order, block: &[u8]) -> Piece<'a>
     ensures { result ≡ interface_in (numbers_in order) block.now }
@@ -159,7 +159,7 @@ fn interface_of<'a>(order: Order, block: &[u8]) -> Piece<'a>
     })
 }
 
-// The resolution that options tell.
+// The time resolution in an interface's options, 6 if there is none.
 fn resolution_of(order: Order, options: &[u8]) -> u8
     ensures { result ≡ resolution_in (numbers_in order) options.now }
 {
@@ -182,7 +182,7 @@ fn resolution_of(order: Order, options: &[u8]) -> u8
     6
 }
 
-// The Ethernet interface of this number.
+// The interface with this number, if it is Ethernet.
 fn ethernet(interfaces: &[Interface], number: usize) -> Option<Interface>
     ensures { result ≡ if_ethernet (slice_get interfaces.now number) }
 {
@@ -194,7 +194,7 @@ fn ethernet(interfaces: &[Interface], number: usize) -> Option<Interface>
     }
 }
 
-// An enhanced packet.
+// The packet in an enhanced packet block.
 #[tactic(auto, unfolding(crate::specs::Pcapng::enhanced_in, crate::specs::Pcapng::enhanced_with))]
 fn enhanced_of<'a>(order: Order, interfaces: &[Interface], block: &'a [u8]) -> Entry<'a>
     ensures { result ≡ enhanced_in (numbers_in order) interfaces.now block.now }
@@ -216,7 +216,7 @@ fn enhanced_of<'a>(order: Order, interfaces: &[Interface], block: &'a [u8]) -> E
     held_of(lengths, time_of(interface.resolution, ticks), held)
 }
 
-// A simple packet.
+// The packet in a simple packet block.
 #[tactic(auto, unfolding(crate::specs::Pcapng::simple_in, crate::specs::Pcapng::simple_with))]
 fn simple_of<'a>(order: Order, interfaces: &[Interface], block: &'a [u8]) -> Entry<'a>
     ensures { result ≡ simple_in (numbers_in order) interfaces.now block.now }
@@ -234,7 +234,7 @@ fn simple_of<'a>(order: Order, interfaces: &[Interface], block: &'a [u8]) -> Ent
     held_of(Lengths { captured, wire }, (0, 0), held)
 }
 
-// How many bytes of a simple packet were captured.
+// The captured length of a simple packet.
 fn snapped_len(snap_len: u32, wire: u32) -> u32
     ensures { result ≡ snapped_len snap_len wire }
 {
@@ -245,7 +245,7 @@ fn snapped_len(snap_len: u32, wire: u32) -> u32
     }
 }
 
-// A packet of these lengths whose bytes are among these.
+// The packet with these lengths and this time, whose data are the first of `bytes`.
 fn held_of(lengths: Lengths, time: (u32, u32), bytes: &[u8]) -> Entry<'_>
     ensures { result ≡ held_in lengths time bytes.now }
 {
@@ -267,7 +267,7 @@ fn held_of(lengths: Lengths, time: (u32, u32), bytes: &[u8]) -> Entry<'_>
     Entry::Frame(CaptureRecord::with_wire_len(time.0, time.1, lengths.wire, frame))
 }
 
-// The seconds and nanoseconds of so many ticks.
+// Converts `ticks` to seconds and nanoseconds. Returns 0 for a resolution above 9, and from 2^32 seconds on.
 fn time_of(resolution: u8, ticks: u64) -> (u32, u32)
     ensures { result ≡ time_of resolution ticks }
 {

@@ -1,4 +1,4 @@
-//! What a capture has.
+//! The content of a capture.
 
 ghost use Rattle.std.specs.Prelude.{◌≡◌, ◌≤◌, length};
 ghost use Rattle.limits.specs.declared.profile.TheConstants.{MOST_SCRIPT_FRAMES};
@@ -8,8 +8,8 @@ use crate::header::TimeUnit;
 use crate::record::CaptureRecord;
 use std::marker::Model;
 
-/// The records of a capture in their order, at most [`MOST_SCRIPT_FRAMES`](limits::MOST_SCRIPT_FRAMES)
-/// of them, and the unit of their times. Their bytes lie where the capture's do.
+/// The records of a capture in order, at most [`MOST_SCRIPT_FRAMES`](limits::MOST_SCRIPT_FRAMES), and the unit of
+/// their times. It borrows the bytes of the capture.
 #[derive(Debug, Drop)]
 pub struct Capture<'a> {
     unit: TimeUnit,
@@ -25,7 +25,7 @@ impl<'a> Model for Capture<'a> {
 }
 
 impl<'a> Capture<'a> {
-    // The capture of these records.
+    // A capture with these records.
     pub(crate) fn new(unit: TimeUnit, records: Vec<CaptureRecord<'a>>) -> Self
         requires { length records.items ≤ MOST_SCRIPT_FRAMES }
         ensures { result ≡ record { unit = unit; records = records.entry.items } }
@@ -33,14 +33,14 @@ impl<'a> Capture<'a> {
         Capture { unit, records }
     }
 
-    /// The unit of the fractions of seconds in its records' times.
+    /// The unit of the fractions of a second in the records' times.
     pub fn unit(&self) -> TimeUnit
         ensures { result ≡ self.now.unit }
     {
         self.unit
     }
 
-    /// The records in their order.
+    /// The records in order.
     pub fn records(&self) -> &[CaptureRecord<'a>]
         ensures value { result.now ≡ self.now.records }
         ensures most { length result.now ≤ MOST_SCRIPT_FRAMES }

@@ -1,4 +1,4 @@
-//! How a capture is read at one place.
+//! The state of reading at one place of a capture.
 
 ghost use Rattle.std.specs.Prelude.{◌≡◌, ◌<◌, ◌++◌, ◌∷◌, [], length, IfErr, OnOk};
 ghost use Rattle.refusals.specs.declared.errors.CaptureError.TheVariants.{Memory};
@@ -12,7 +12,7 @@ use refusals::CaptureError;
 use std::alloc::Global;
 use std::marker::Model;
 
-/// The format of a capture, the order of its numbers, and the interfaces of its section so far.
+/// The format of a capture, the byte order at the current place, and the interfaces of the section so far.
 #[derive(Drop)]
 pub struct Cursor {
     format: Format,
@@ -37,7 +37,7 @@ impl Cursor {
         }
     }
 
-    /// The piece that the bytes begin with, and the bytes after it.
+    /// The first piece in the bytes, and the bytes after it.
     pub fn piece_of<'a>(&self, bytes: &'a [u8]) -> (Piece<'a>, &'a [u8])
         requires { 0 < length bytes.now }
         ensures value { let p = piece_in self.now bytes.now in (result.0 ≡ p.0) × (result.1.now ≡ p.1) }
@@ -52,7 +52,7 @@ impl Cursor {
         }
     }
 
-    /// A section begins, with numbers in this order and interfaces of its own.
+    /// Begins a section with this byte order. It has no interfaces yet.
     pub fn begin(&mut self, order: Order)
         ensures { self.new ≡ record { format = self.old.format; order = order; interfaces = [] } }
     {
@@ -60,7 +60,7 @@ impl Cursor {
         self.interfaces.clear();
     }
 
-    /// The section has one more interface.
+    /// Adds an interface to the section.
     pub fn push(&mut self, interface: Interface) -> Result<(), CaptureError>
         ensures pushed { OnOk result (self.new ≡ record { format = self.old.format; order = self.old.order; interfaces = self.old.interfaces ++ interface ∷ [] }) }
         ensures err { IfErr result (λ e. e ≡ Memory) }
@@ -70,7 +70,7 @@ impl Cursor {
             .map_err(|_| CaptureError::Memory)
     }
 
-    /// Goes on behind a piece.
+    /// Advances past a piece.
     pub fn turn(&mut self, piece: &Piece<'_>) -> Result<(), CaptureError>
         ensures turned { OnOk result (self.new ≡ source_after self.old piece.now) }
         ensures err { IfErr result (λ e. e ≡ Memory) }

@@ -1,4 +1,4 @@
-//! What is wrong with a record that is refused.
+//! Details of a refused record.
 
 ghost use Rattle.std.specs.Prelude.{◌≡◌, ◌<◌, length, IfErr, IfOk};
 ghost use Rattle.refusals.specs.declared.errors.CaptureError.TheVariants.{Memory};
@@ -14,9 +14,9 @@ use crate::reading::header_of;
 use refusals::CaptureError;
 use std::alloc::Global;
 
-/// What is wrong with the record of this number, and its lengths: for a message about a refusal 93 to 95, which has the
-/// number. Records are counted from 1, as [`read`](crate::read) counts them. The answer is `None` for a record with no
-/// fault, and where there is no such record. Refused are a faulty header, with 91 or 92, and want of memory, with 97.
+/// Returns the fault of record `number` and its lengths, for messages about refusals 93 to 95, which carry this
+/// number. Records are counted from 1, as [`read`](crate::read) counts them. Returns `None` if the record has no
+/// fault or does not exist. Refuses a faulty header (91, 92) and a lack of memory (97).
 pub fn fault_details(
     alloc: Global,
     bytes: &[u8],
@@ -28,7 +28,7 @@ pub fn fault_details(
     fault_after(alloc, form, rest, number.saturating_sub(1))
 }
 
-// What is wrong with the packet after so many others.
+// The fault of the packet after `others` other packets.
 fn fault_after(
     alloc: Global,
     form: Form,
@@ -53,7 +53,7 @@ fn fault_after(
     Ok(None)
 }
 
-// How many packets are left after this piece, unless it is the packet.
+// How many packets to pass after this piece, or `None` if this is the packet sought.
 fn left_after(left: u64, piece: &Piece<'_>) -> Option<u64>
     ensures { result ≡ left_after left piece.now }
 {
@@ -63,7 +63,7 @@ fn left_after(left: u64, piece: &Piece<'_>) -> Option<u64>
     }
 }
 
-// What is wrong with a packet.
+// The fault of a packet.
 fn fault_in(piece: &Piece<'_>) -> Option<FaultyRecord>
     ensures { result ≡ fault_in_piece piece.now }
 {

@@ -1,4 +1,4 @@
-//! The entries of a capture: its records, whole or faulty.
+//! The entries of a capture: records, intact or faulty.
 
 ghost use Rattle.std.specs.Prelude.{◌≡◌, ◌<◌, length, IsSome, IfSome};
 ghost use Rattle.capture.specs.Entries.{entry_in, fault_of, refusal_of};
@@ -9,13 +9,13 @@ use crate::record::CaptureRecord;
 use limits::{LEAST_FRAME, MOST_FRAME};
 use refusals::CaptureError;
 
-// How many bytes a record has before the captured ones.
+// The length of a record's header.
 pub(crate) const RECORD_HEADER: usize = 16;
 
-/// What is wrong with a record.
+/// The fault of a record.
 #[derive(Clone, Copy, Debug, PartialEq, Eq)]
 pub enum Fault {
-    /// The capture ends within the record.
+    /// The capture ends within the record, or a pcapng block is too short for its packet.
     Truncated,
     /// Fewer bytes were captured than the frame had on the wire: the snap length cut it.
     Snapped,
@@ -25,37 +25,37 @@ pub enum Fault {
     Short,
 }
 
-/// The two lengths that a record states.
+/// The two lengths in a record's header.
 #[derive(Clone, Copy, Debug, PartialEq, Eq)]
 pub struct Lengths {
-    /// How many bytes were captured.
+    /// The number of captured bytes.
     pub captured: u32,
-    /// How many bytes the frame had on the wire.
+    /// The frame's length on the wire, in bytes.
     pub wire: u32,
 }
 
 /// A record that is refused or left out.
 #[derive(Clone, Copy, Debug, PartialEq, Eq)]
 pub struct FaultyRecord {
-    /// What is wrong with it.
+    /// The fault of the record.
     pub fault: Fault,
-    /// Its lengths, unless the capture ends before them.
+    /// The record's lengths, or `None` if the capture ends before them.
     pub lengths: Option<Lengths>,
 }
 
-/// A record, or what is wrong with it.
+/// A record, or its fault.
 #[derive(Drop)]
 pub enum Entry<'a> {
     Frame(CaptureRecord<'a>),
     Faulty(FaultyRecord),
-    /// It cannot be read, nor what follows it.
+    /// Neither it nor anything after it can be read.
     Unread(CaptureError),
 }
 
 impl Fault {
     ghost use Rattle.capture.specs.Telling.{limit_of};
 
-    /// The refusal of a record of this number that has this fault.
+    /// The refusal of record `number` with this fault.
     pub fn refusal(self, number: u64) -> CaptureError
         ensures { result ≡ refusal_of self number }
     {
@@ -66,7 +66,7 @@ impl Fault {
         }
     }
 
-    /// The limit of a frame's length that is broken: [`MOST_FRAME`](limits::MOST_FRAME) or
+    /// The limit of the frame length that the record breaks: [`MOST_FRAME`](limits::MOST_FRAME) or
     /// [`LEAST_FRAME`](limits::LEAST_FRAME). A truncated or snapped record breaks none.
     pub fn limit(self) -> Option<usize>
         ensures { result ≡ limit_of self }
@@ -79,7 +79,7 @@ impl Fault {
     }
 }
 
-// What is wrong with a record of these lengths whose bytes are there.
+// The fault of a record with these lengths, none of whose bytes are missing.
 pub fn fault_of(lengths: Lengths) -> Option<Fault>
     ensures { result ≡ fault_of lengths }
 {
@@ -95,7 +95,7 @@ pub fn fault_of(lengths: Lengths) -> Option<Fault>
     }
 }
 
-// The entry that the bytes begin with, and the bytes after it.
+// The first entry in the bytes, and the bytes after it.
 #[tactic(auto, unfolding(crate::specs::Entries::entry_in))]
 pub fn entry_of(order: Order, bytes: &[u8]) -> (Entry<'_>, &[u8])
     requires { 0 < length bytes.now }

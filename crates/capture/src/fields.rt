@@ -6,7 +6,7 @@ ghost use Rattle.capture.specs.Layout.{numbers_in};
 use crate::header::Order;
 use byteorder::{BigEndian, ByteOrder, LittleEndian};
 
-/// The number in the two bytes from this place on.
+/// Reads two bytes at `place` as a number.
 pub fn half(order: Order, bytes: &[u8], place: usize) -> u16
     requires { place + 2 ≤ length bytes.now }
     ensures { result ≡ numbers_in order 2 (drop place bytes.now) }
@@ -18,7 +18,7 @@ pub fn half(order: Order, bytes: &[u8], place: usize) -> u16
     }
 }
 
-/// The number in the four bytes from this place on.
+/// Reads four bytes at `place` as a number.
 pub fn word(order: Order, bytes: &[u8], place: usize) -> u32
     requires { place + 4 ≤ length bytes.now }
     ensures { result ≡ numbers_in order 4 (drop place bytes.now) }

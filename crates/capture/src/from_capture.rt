@@ -1,4 +1,4 @@
-//! The lines of a capture.
+//! From a capture to script lines.
 
 ghost use Rattle.std.specs.Prelude.{◌≡◌, ◌<◌, [], IfErr, IfOk};
 ghost use Rattle.std.specs.String.{string_bytes};
@@ -11,11 +11,11 @@ use crate::record::CaptureRecord;
 use std::alloc::Global;
 use wire_script::{ScriptError, print_line};
 
-/// How many bytes a frame's line has beside its digits: port, queue, two spaces and LF.
+/// The bytes of a frame's line besides its digits: port, queue, two spaces and LF.
 const AROUND_FRAME: usize = 5;
 
-/// The frames of these records as lines of a script, each at this port, 0 or 1, and this queue, 0 to 7. Their times are
-/// left out. The text's room is made at once.
+/// Prints the frames of these records as lines of a script, all at this port (0 or 1) and queue (0 to 7), without
+/// their times. Allocates the text once.
 pub fn lines_at(
     alloc: Global,
     port: u8,
@@ -34,7 +34,7 @@ pub fn lines_at(
     Ok(text)
 }
 
-/// An empty text with room for so many bytes.
+/// Allocates an empty text with room for `room` bytes.
 fn with_room(alloc: Global, room: usize) -> Result<String, ScriptError>
     ensures text { IfOk result (λ text. string_bytes text ≡ []) }
     ensures err { IfErr result (λ e. e ≡ Memory) }
@@ -42,7 +42,7 @@ fn with_room(alloc: Global, room: usize) -> Result<String, ScriptError>
     String::with_capacity(alloc, room).map_err(|_| ScriptError::Memory)
 }
 
-/// How many bytes the lines have. No clause needs it.
+/// The length of the lines. No clause needs it.
 fn text_len(records: &[CaptureRecord<'_>]) -> usize {
     let mut len = 0usize;
     for found in records {

@@ -1,4 +1,4 @@
-//! What was read of a capture so far.
+//! The part of a capture that has been read.
 
 ghost use Rattle.std.specs.Prelude.{◌≡◌, ◌+◌, ◌-◌, ◌<◌, ◌^◌, length, vec_len, ◌≤◌, Ok, IfErr, OnOk};
 ghost use Rattle.limits.specs.declared.profile.TheConstants.{MOST_SCRIPT_FRAMES};
@@ -13,7 +13,7 @@ use refusals::CaptureError;
 use std::alloc::Global;
 use std::marker::Model;
 
-/// The frames so far, what was left out, and how many records that is together.
+/// The frames so far, the counts of records left out, and the number of records read.
 #[derive(Drop)]
 pub struct Gathered<'a> {
     records: Vec<CaptureRecord<'a>>,
@@ -40,14 +40,14 @@ impl<'a> Gathered<'a> {
         }
     }
 
-    /// How many frames there are.
+    /// The number of frames.
     pub fn frames(&self) -> usize
         ensures { result ≡ length self.now.records }
     {
         self.records.len()
     }
 
-    /// Adds a record. A faulty one is counted where faults are skipped, and else refused.
+    /// Adds a record. With `skip`, counts a faulty record; without, refuses it.
     #[tactic(auto, unfolding(crate::specs::SoFar::with_entry))]
     pub fn add(&mut self, skip: bool, entry: Entry<'a>) -> Result<(), CaptureError>
         requires { self.old.number < 2 ^ 64 - 1 }
@@ -75,7 +75,7 @@ impl<'a> Gathered<'a> {
         Ok(())
     }
 
-    /// The frames, and what was left out.
+    /// The frames, and the counts of records left out.
     pub fn into_parts(self) -> (Vec<CaptureRecord<'a>>, Skipped)
         ensures frames { result.0.items ≡ self.entry.records }
         ensures skipped { result.1 ≡ self.entry.skipped }

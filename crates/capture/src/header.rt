@@ -3,28 +3,28 @@
 ghost use Rattle.std.specs.Prelude.{◌≡◌};
 ghost use Rattle.capture.specs.Layout.{form_of};
 
-/// The unit of the fractions of seconds in a capture's times.
+/// The unit of the fractions of a second in a capture's times.
 #[derive(Clone, Copy, Debug, PartialEq, Eq)]
 pub enum TimeUnit {
     Micros,
     Nanos,
 }
 
-/// The order of the bytes of a capture's numbers.
+/// The byte order of a capture's numbers.
 #[derive(Clone, Copy)]
 pub enum Order {
     Big,
     Little,
 }
 
-/// What follows the header: records of classic pcap, or blocks of pcapng.
+/// The format of the file: records of classic pcap, or blocks of pcapng.
 #[derive(Clone, Copy)]
 pub enum Format {
     Classic,
     Blocks,
 }
 
-/// What a capture's first four bytes tell.
+/// The format, byte order and time unit of a capture.
 #[derive(Clone, Copy)]
 pub struct Form {
     pub format: Format,
@@ -32,7 +32,7 @@ pub struct Form {
     pub unit: TimeUnit,
 }
 
-/// The form that a magic number tells, which is read in big-endian order, if it tells one.
+/// The form for a magic number of classic pcap, read as big-endian.
 pub fn form_of(magic: u32) -> Option<Form>
     ensures { result ≡ form_of magic }
 {

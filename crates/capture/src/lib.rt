@@ -1,22 +1,21 @@
-//! Captures of frames, as tcpdump and Wireshark write them: classic pcap, version 2.4, and pcapng, version 1, of Ethernet;
-//! and between captures and scripts.
+//! Reading and writing Ethernet captures, as tcpdump and Wireshark write them: classic pcap 2.4 and pcapng version 1.
+//! Depends on `wire_script`, `limits`, `refusals` and `byteorder`.
+//! Each input yields exactly one result, and [`read`] returns the records that [`write`] wrote.
 //!
-//! A classic capture is a header of 24 bytes and then its records. A record is a header of 16 bytes, which
-//! has a time, how many bytes were captured and how many the frame had on the wire, and then the
-//! captured bytes. The header's first four bytes tell the byte order of all these numbers, and
-//! whether times are in microseconds or in nanoseconds.
+//! A classic capture is a header of 24 bytes, followed by records. A record is a header of 16 bytes (time, captured
+//! length, length on the wire), followed by the captured bytes. The first four bytes of the file determine the byte
+//! order of all these numbers, and whether times are in microseconds or nanoseconds.
 //!
-//! A pcapng capture is a list of blocks. A section header block tells the byte order of the blocks up to the next one.
-//! An interface description block describes one interface of its section, and each packet block names its interface.
+//! A pcapng capture is a list of blocks. A section header block determines the byte order up to the next one. An
+//! interface description block describes one interface of its section, and each packet block names its interface.
 //!
-//! [`read`] answers the records that some bytes say as a capture, or the first fault. [`read_with`] can
-//! leave faulty records out and count them, and stop after some frames. [`write`]
-//! makes a capture of records: classic pcap in little-endian order, in microseconds, with a snap length of
-//! 65,535; and `read` reads from it the same records.
+//! [`read`] returns all records of a capture, or its first fault. [`read_with`] can leave out and count faulty
+//! records, and stop after a number of frames. [`write`] writes records as classic pcap: little-endian, in
+//! microseconds, with a snap length of 65,535.
 //!
-//! [`lines_at`] puts the frames of a capture at a port and a queue, as lines of a script. [`capture_of`] makes a capture
-//! of the frames of a port, in the script's order: frame k, counted from 0, has k microseconds, since a script has no
-//! times.
+//! [`lines_at`] prints the frames of a capture as lines of a script, at one port and queue. [`capture_of`] writes the
+//! frames of a script's port as a capture, in the script's order. A script has no times, so frame `k`, counted from
+//! 0, gets a time of `k` microseconds.
 #![tactic(auto)]
 
 mod blocks;

@@ -1,23 +1,23 @@
-//! How a capture is read.
+//! The options for reading a capture.
 
 ghost use Rattle.std.specs.Prelude.{◌≡◌, ◌+◌, ◌<◌, ◌^◌, ◌-◌};
 ghost use Rattle.capture.specs.SoFar.{with_fault};
 
 use crate::entry::Fault;
 
-/// How a capture is read. The default refuses the first faulty record and has no limit.
+/// Options for reading a capture. By default, the first faulty record is refused, and there is no limit.
 #[derive(Clone, Copy, Debug, Default, PartialEq, Eq)]
 pub struct ReadOptions {
     /// Leave out faulty records, and count them.
     pub skip: bool,
-    /// Stop after so many frames. What follows them is not looked at.
+    /// Stop after this number of frames. The bytes after them are not read.
     pub limit: Option<u32>,
 }
 
-/// How many records were left out, for each reason.
+/// The number of records left out, by fault.
 #[derive(Clone, Copy, Debug, Default, PartialEq, Eq)]
 pub struct Skipped {
-    /// The capture ends within the record. At most one record is.
+    /// The capture ends within the record, or a pcapng block is too short for its packet.
     pub truncated: u64,
     /// Fewer bytes were captured than the frame had on the wire.
     pub snapped: u64,
@@ -30,7 +30,7 @@ pub struct Skipped {
 impl ReadOptions {
     ghost use Rattle.capture.specs.Choosing.{is_below};
 
-    // Whether more frames are wanted than these.
+    // Whether to read on after this number of frames.
     pub(crate) fn wants_more(self, frames: usize) -> bool
         ensures { result ≡ is_below self.limit frames }
     {
@@ -42,7 +42,7 @@ impl ReadOptions {
 }
 
 impl Skipped {
-    // One record with this fault more.
+    // Counts one more record with this fault.
     pub(crate) fn with(self, fault: Fault) -> Self
         requires { self.truncated + self.snapped + self.long + self.short < 2 ^ 64 - 1 }
         ensures { result ≡ with_fault self fault }

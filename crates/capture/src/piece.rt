@@ -1,4 +1,4 @@
-//! The pieces of a capture: what a record of classic pcap or a block of pcapng says.
+//! The pieces of a capture: records of classic pcap, or blocks of pcapng.
 
 use crate::entry::Entry;
 use crate::header::Order;
@@ -7,21 +7,21 @@ use crate::header::Order;
 #[derive(Clone, Copy, Debug, PartialEq, Eq)]
 pub struct Interface {
     pub link_type: u16,
-    /// 0 where there is none.
+    /// The snap length in bytes, 0 for none.
     pub snap_len: u32,
     /// The byte of the option `if_tsresol`.
     pub resolution: u8,
 }
 
-/// What a record or a block says.
+/// The meaning of a record or block.
 #[derive(Drop)]
 pub enum Piece<'a> {
-    /// There is a packet.
+    /// A packet.
     Packet(Entry<'a>),
-    /// A section begins, with numbers in this order.
+    /// The begin of a section with this byte order.
     Section(Order),
-    /// An interface is described.
+    /// The description of an interface.
     Described(Interface),
-    /// A block that is skipped.
+    /// A skipped block.
     Other,
 }

@@ -22,26 +22,25 @@ use byteorder::{BigEndian, ByteOrder};
 use refusals::CaptureError;
 use std::alloc::Global;
 
-// How many bytes a capture's header has.
+// The length of a classic header.
 pub(crate) const HEADER: usize = 24;
 
-/// Reads classic pcap or pcapng, and answers the records or the first fault: of the header, else of the first faulty
-/// record. Of the header's faults 91 comes before 92, and of a record's the lowest number (93 to 96,
-/// see [`CaptureError`]). Where memory is refused before either is found, the answer is 97.
+/// Reads classic pcap or pcapng. Returns the records, or the first fault: that of the header, else that of the first
+/// faulty record. If the header has several faults, 91 comes before 92; if a record has several, the lowest number of
+/// 93 to 96 counts (see [`CaptureError`]). Returns 97 if memory is refused before a fault is found.
 ///
-/// Zone, accuracy and snap length of a classic header are not looked at. A record that says that fewer
-/// bytes were on the wire than were captured is read with the bytes that were captured.
+/// Zone, accuracy and snap length of a classic header are ignored. A record whose length on the wire is less than its
+/// captured length is read with all its captured bytes.
 ///
-/// Of pcapng, enhanced and simple packet blocks of all sections are read, and other blocks are skipped. Records are
-/// counted from 1 over all packet blocks. 91 is also the answer for a section that is not of version 1 or for a malformed
-/// block, and 92 for a packet whose interface is not Ethernet or is not described. A packet that does not fit in its
-/// block is cut short, as is one where the file ends. Times are in nanoseconds; a time is 0 where the block has none, where
-/// it is not before 2^32 seconds, or where `if_tsresol` tells a power of two or more than 10^9 ticks a second. `if_tsoffset`
-/// is not looked at.
+/// In pcapng, enhanced and simple packet blocks of all sections are read; other blocks are skipped. Records are
+/// counted from 1 over all packet blocks. A malformed block or a section of another version than 1 is refused with
+/// 91, a packet whose interface is undescribed or not Ethernet with 92, and a packet that is longer than its block or
+/// cut by the end of the file with 93. Times are in nanoseconds. A time is 0 if the block has none, if it is 2^32
+/// seconds or more, or if `if_tsresol` states a power of two or more than 10^9 ticks per second. `if_tsoffset` is
+/// ignored.
 ///
-/// It goes over the bytes once and copies none. What is kept takes, from the second record on, at
-/// most 64 bytes a record: 32 for each, in a list that grows by doubling. Of pcapng the interfaces of a section are
-/// kept as well.
+/// Reads the bytes once and copies none. Needs at most 64 bytes of memory per record from the second record on: 32
+/// for each, in a list that grows by doubling. For pcapng, also keeps the interfaces of a section.
 pub fn read(alloc: Global, bytes: &[u8]) -> Result<Capture<'_>, CaptureError>
     ensures { Answers result (capture_in bytes.now) }
 {
@@ -49,12 +48,12 @@ pub fn read(alloc: Global, bytes: &[u8]) -> Result<Capture<'_>, CaptureError>
     Ok(capture)
 }
 
-/// Reads a capture with options, and answers how many records were left out.
+/// Reads a capture with options. Also returns how many records were left out.
 ///
-/// With `skip` a faulty record is left out, and not refused with 93 to 95; 96 stays a refusal. With
-/// `limit` reading stops after so many frames: what follows them is not looked at, and records that are
-/// left out do not count. The header is always checked. A refused record's number counts all records
-/// from 1, also those that are left out.
+/// With `skip`, faulty records are left out instead of refused with 93 to 95; 91, 92 and 96 remain refusals. With
+/// `limit`, reading stops after this number of frames, not counting records left out, and the bytes after them are
+/// not read. The header is always checked. The number of a refused record counts all records from 1, including those
+/// left out.
 pub fn read_with(
     alloc: Global,
     bytes: &[u8],
@@ -67,7 +66,7 @@ pub fn read_with(
     Ok((Capture::new(form.unit, records), skipped))
 }
 
-// What the first bytes tell, and the bytes where the records or blocks begin.
+// The form of the capture, and its bytes after the header.
 #[tactic(auto, unfolding(crate::specs::Reading::header_in))]
 pub(crate) fn header_of(bytes: &[u8]) -> Result<(Form, &[u8]), CaptureError>
     ensures { MatchResult result (λ p. header_in bytes.now ≡ Ok (p.0, p.1.now)) (λ e. header_in bytes.now ≡ Err e) }
@@ -79,7 +78,7 @@ pub(crate) fn header_of(bytes: &[u8]) -> Result<(Form, &[u8]), CaptureError>
     Ok((form, bytes.split_at(HEADER).1))
 }
 
-// The section header that a file of pcapng begins with, and the bytes after it.
+// The section header at the start of a pcapng file, and the bytes after it.
 #[tactic(auto, unfolding(crate::specs::Reading::blocks_header_in))]
 fn blocks_header_of(bytes: &[u8]) -> Result<(Form, &[u8]), CaptureError>
     requires { 4 ≤ length bytes.now }
@@ -97,7 +96,7 @@ fn blocks_header_of(bytes: &[u8]) -> Result<(Form, &[u8]), CaptureError>
     Ok((form, rest))
 }
 
-// The header of classic pcap that the bytes begin with.
+// The header of classic pcap at the start of the bytes.
 #[tactic(auto, unfolding(crate::specs::Reading::classic_header_in))]
 fn classic_header_of(bytes: &[u8]) -> Result<Form, CaptureError>
     ensures value { result ≡ classic_header_in bytes.now }
@@ -112,7 +111,7 @@ fn classic_header_of(bytes: &[u8]) -> Result<Form, CaptureError>
     checked(form, bytes)
 }
 
-// The rest of the header, where its numbers stand in this order.
+// Checks the version and link type in a header of this form.
 #[tactic(auto, unfolding(crate::specs::Reading::checked_header))]
 fn checked(form: Form, bytes: &[u8]) -> Result<Form, CaptureError>
     requires { HEADER ≤ length bytes.now }
@@ -128,7 +127,7 @@ fn checked(form: Form, bytes: &[u8]) -> Result<Form, CaptureError>
     Ok(form)
 }
 
-// The frames of these bytes that the options choose, and what is left out.
+// The frames that the options select, and the counts of records left out.
 fn chosen_of<'a>(
     alloc: Global,
     form: Form,
@@ -150,7 +149,7 @@ fn chosen_of<'a>(
     Ok(gathered.into_parts())
 }
 
-// Takes a piece: a packet is added, a section or an interface is the cursor's.
+// Takes a piece: adds a packet, or lets the cursor take a section or an interface.
 fn take<'a>(
     cursor: &mut Cursor,
     gathered: &mut Gathered<'a>,

@@ -6,7 +6,7 @@ ghost use Rattle.capture.specs.Record.{InRange, Record, record_of};
 
 use std::marker::Model;
 
-/// A frame of a capture, with the time of its capture. Its bytes lie where the capture's do.
+/// A frame of a capture, with the time of its capture. It borrows the bytes of the capture.
 #[derive(Debug, Drop)]
 pub struct CaptureRecord<'a> {
     seconds: u32,
@@ -24,8 +24,8 @@ impl<'a> Model for CaptureRecord<'a> {
 }
 
 impl<'a> CaptureRecord<'a> {
-    /// The record of a frame that was captured whole, so many seconds and microseconds (in a capture
-    /// of nanoseconds: nanoseconds) after the beginning of 1970.
+    /// A record of a completely captured frame, `seconds` seconds and `fraction` microseconds (nanoseconds, in a
+    /// capture of nanoseconds) after the start of 1970.
     pub fn new(seconds: u32, fraction: u32, frame: &'a [u8]) -> Self
         requires least { LEAST_FRAME ≤ length frame.now }
         requires greatest { length frame.now ≤ MOST_FRAME }
@@ -35,7 +35,7 @@ impl<'a> CaptureRecord<'a> {
         Self::with_wire_len(seconds, fraction, wire_len, frame)
     }
 
-    // The record of a frame that had this length on the wire.
+    // A record of a frame with this length on the wire.
     pub(crate) fn with_wire_len(seconds: u32, fraction: u32, wire_len: u32, frame: &'a [u8]) -> Self
         requires least { LEAST_FRAME ≤ length frame.now }
         requires greatest { length frame.now ≤ MOST_FRAME }
@@ -50,29 +50,28 @@ impl<'a> CaptureRecord<'a> {
         }
     }
 
-    /// The seconds of its time, after the beginning of 1970.
+    /// The time in whole seconds since the start of 1970.
     pub fn seconds(&self) -> u32
         ensures { result ≡ self.now.seconds }
     {
         self.seconds
     }
 
-    /// The rest of its time, in the capture's [`TimeUnit`](crate::TimeUnit).
+    /// The fraction of a second of the time, in the capture's [`TimeUnit`](crate::TimeUnit).
     pub fn fraction(&self) -> u32
         ensures { result ≡ self.now.fraction }
     {
         self.fraction
     }
 
-    /// The length that the capture says the frame had on the wire: its own, or less where a capture
-    /// says so.
+    /// The frame's length on the wire according to the capture: its captured length, or less.
     pub fn wire_len(&self) -> u32
         ensures { result ≡ self.now.wire_len }
     {
         self.wire_len
     }
 
-    /// The frame's bytes, as they were captured.
+    /// The captured bytes of the frame.
     pub fn frame(&self) -> &'a [u8]
         ensures value { result.now ≡ self.now.frame }
         ensures in_range { InRange self.now }

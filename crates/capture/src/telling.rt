@@ -1,4 +1,4 @@
-//! What a message says of a file that is refused.
+//! Details of a refused file.
 
 ghost use Rattle.std.specs.Prelude.{◌≡◌};
 ghost use Rattle.std.specs.Option.{option_copied};
@@ -9,15 +9,15 @@ use crate::header::form_of;
 use crate::reading::HEADER;
 use byteorder::{BigEndian, ByteOrder};
 
-/// Whether the bytes begin as a gzip file does, with `1f 8b`.
+/// Whether the bytes begin like a gzip file, with `1f 8b`.
 pub fn is_gzip(bytes: &[u8]) -> bool
     ensures { result ≡ is_gzip bytes.now }
 {
     bytes.starts_with(&[0x1f, 0x8b])
 }
 
-/// The link type that the header of classic pcap tells, in the 4 bytes from byte 20 on: for a message about the refusal 92.
-/// In pcapng each interface has its own, and the answer is `None`.
+/// The link type in a classic pcap header (4 bytes from byte 20 on), for messages about refusal 92. Returns `None`
+/// for pcapng, where each interface has its own.
 pub fn link_type_of(bytes: &[u8]) -> Option<u32>
     ensures { result ≡ link_type_of bytes.now }
 {
@@ -28,7 +28,7 @@ pub fn link_type_of(bytes: &[u8]) -> Option<u32>
     Some(word(form.order, bytes, 20))
 }
 
-/// The name of a link type, as libpcap has it, for the common ones.
+/// The libpcap name of a common link type.
 pub fn link_type_name(link_type: u32) -> Option<&'static str>
     ensures { option_copied result ≡ name_of_link_type link_type }
 {

@@ -1,4 +1,4 @@
-//! The capture of a port.
+//! From a script to a capture.
 
 ghost use Rattle.std.specs.Prelude.{◌≡◌, IfErr, IfOk, Ok};
 ghost use Rattle.capture.specs.Writing.{capture_of};
@@ -13,11 +13,11 @@ use refusals::CaptureError;
 use std::alloc::Global;
 use wire_script::Script;
 
-/// How many microseconds a second has.
+/// Microseconds per second.
 const SECOND: u32 = 1_000_000;
 
-/// A capture of the frames of this port, 0 or 1, in the script's order, frame k at k microseconds. Its room is made at
-/// once.
+/// Writes the frames of this port (0 or 1) as a capture, in the script's order. Frame `k`, counted from 0, has a time
+/// of `k` microseconds. Allocates the bytes once.
 pub fn capture_of(alloc: Global, port: u8, script: &Script) -> Result<Vec<u8>, CaptureError>
     ensures bytes { IfOk result (λ bytes. bytes.items ≡ capture_of (records_of_port port script.now)) }
     ensures err { IfErr result (λ e. e ≡ Memory) }
@@ -36,7 +36,7 @@ pub fn capture_of(alloc: Global, port: u8, script: &Script) -> Result<Vec<u8>, C
     Ok(bytes)
 }
 
-/// How many bytes the capture has. No clause needs it.
+/// The length of the capture. No clause needs it.
 fn capture_len(port: u8, script: &Script) -> usize {
     let mut len = HEADER;
     for frame in script.frames() {

@@ -15,16 +15,16 @@ use byteorder::{ByteOrder, LittleEndian};
 use refusals::CaptureError;
 use std::alloc::{AllocError, Global};
 
-/// The first 24 bytes of each capture that is written, in little-endian order: the magic of
-/// microseconds, version 2.4, zone and accuracy 0, a snap length of 65,535 and link type 1.
+/// The header of every written capture, in little-endian order: the magic number for microseconds, version 2.4, zone
+/// and accuracy 0, a snap length of 65,535 and link type 1.
 const HEADER: [u8; 24] = [
     0xd4, 0xc3, 0xb2, 0xa1, 2, 0, 4, 0, 0, 0, 0, 0, 0, 0, 0, 0, 0xff, 0xff, 0, 0, 1, 0, 0, 0,
 ];
 
-/// A capture of these records. Their fractions of seconds are to be microseconds.
+/// Writes a capture of these records, whose fractions of a second are microseconds.
 ///
-/// Any number of records is written; [`read`](crate::read) reads back up to
-/// [`MOST_SCRIPT_FRAMES`](limits::MOST_SCRIPT_FRAMES) of them.
+/// The number of records is not limited, but [`read`](crate::read) accepts only
+/// [`MOST_SCRIPT_FRAMES`](limits::MOST_SCRIPT_FRAMES).
 pub fn write(alloc: Global, records: &[CaptureRecord<'_>]) -> Result<Vec<u8>, CaptureError>
     ensures bytes { IfOk result (λ bytes. bytes.items ≡ capture_of records.now) }
     ensures read_back { IfOk result (λ bytes. length records.now ≤ MOST_SCRIPT_FRAMES
@@ -40,7 +40,7 @@ pub fn write(alloc: Global, records: &[CaptureRecord<'_>]) -> Result<Vec<u8>, Ca
     Ok(bytes)
 }
 
-// How many bytes the capture has, for which room is made at once. No clause needs it.
+// The length of the capture, allocated at once. No clause needs it.
 fn capture_len(records: &[CaptureRecord<'_>]) -> usize {
     let mut len = HEADER.len();
     for found in records {
@@ -51,8 +51,7 @@ fn capture_len(records: &[CaptureRecord<'_>]) -> usize {
     len
 }
 
-/// Writes a capture's header at the end of some bytes: a capture begins with it, and its records
-/// follow, for which there is [`write_record`]. Where memory is refused nothing is written.
+/// Appends a capture's header. The records follow, written by [`write_record`]. Appends nothing if memory is refused.
 pub fn write_header(bytes: &mut Vec<u8>) -> Result<(), CaptureError>
     ensures header { OnOk result (bytes.new.items ≡ bytes.old.items ++ header_bytes) }
     ensures err { IfErr result (λ e. e ≡ Memory) }
@@ -62,8 +61,8 @@ pub fn write_header(bytes: &mut Vec<u8>) -> Result<(), CaptureError>
         .map_err(|_| CaptureError::Memory)
 }
 
-/// Writes a record at the end of some bytes, as [`write`] writes it: for records that need not lie
-/// in a list. Where memory is refused the bytes may have a beginning of the record at their end.
+/// Appends a record in the format of [`write`], for records that are not in a list. If memory is refused, part of the
+/// record may have been appended.
 pub fn write_record(bytes: &mut Vec<u8>, found: &CaptureRecord<'_>) -> Result<(), CaptureError>
     ensures appended { OnOk result (bytes.new.items ≡ bytes.old.items ++ record_bytes found.now) }
     ensures in_range { InRange found.now }
@@ -86,7 +85,7 @@ fn push_record(bytes: &mut Vec<u8>, found: &CaptureRecord<'_>) -> Result<(), All
     Ok(())
 }
 
-// A number in four bytes.
+// Appends a number as four bytes.
 fn push_number(bytes: &mut Vec<u8>, number: u32) -> Result<(), AllocError>
     ensures { OnOk result (bytes.new.items ≡ bytes.old.items ++ little_bytes 4 number) }
 {
