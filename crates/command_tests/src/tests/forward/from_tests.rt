@@ -68,7 +68,7 @@ const NOT_CAPTURE: &str = "refused 91 not a capture in pcap or pcapng\n";
 
 const REFUSED: &[Refusing] = &[
     (&[], NOT_CAPTURE),
-    (&[NEXT, AT_0, LETTERS], "record 1: refused 93 cut short\n"),
+    (&[NEXT, AT_0, LETTERS], NOT_CAPTURE),
     (&[RAW, AT_0, LETTERS], "refused 92 link type\n"),
     (
         &[HEADER, AT_0, THIRTEEN],
