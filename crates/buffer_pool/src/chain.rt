@@ -1,4 +1,4 @@
-//! Buffers linked one behind another.
+//! Buffers in a linked chain.
 ghost use Rattle.std.specs.Prelude.{◌≡◌, ◌<◌, ◌≤◌, ◌∷◌, ◌++◌, ◌↔◌, [], length, map, drop, slice_index, slice_set, IsNone, IfNone, IfSome};
 ghost use Rattle.std.specs.Iterator.{YieldsFirstRef, item_count};
 ghost use Rattle.buffer_pool.specs.Buffer.{buffer};
@@ -18,7 +18,7 @@ pub(crate) enum Chain {
     To(Box<Link>),
 }
 
-/// A buffer of a chain, and those behind it.
+/// A buffer of a chain, and those after it.
 #[derive(Drop)]
 #[cycle(chain)]
 pub(crate) struct Link {
@@ -37,7 +37,7 @@ pub(crate) struct Room {
 const _: () = prove!(size_of::<Chain>() == 16);
 
 impl Chain {
-    /// Links these buffers behind `buf`.
+    /// Links these buffers after `buf`.
     pub(crate) fn behind(self, buf: Buf) -> Chain
         requires chain { IsChain self }
         requires some_bytes { 0 < length buf.bytes }
@@ -74,7 +74,7 @@ impl Chain {
         }
     }
 
-    /// Appends `buf` behind the last buffer.
+    /// Appends `buf` after the last buffer.
     pub(crate) fn push(&mut self, buf: Buf)
         requires chain { IsChain self.old }
         requires some_bytes { 0 < length buf.bytes }

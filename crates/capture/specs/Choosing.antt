@@ -1,4 +1,4 @@
--- What is read of the records of a capture: all, those without a fault, or the first few.
+-- The records that are read: all, those without a fault, or the first few.
 use Rattle.std.specs.Prelude.{ℕ, suc, zero, ◌+◌, Bool, true, false, nat_lt, List, [], ◌∷◌, Option, Some, None, Result, Ok, Err}
 use Rattle.std.specs.List.{count_by, filter_map}
 use Rattle.limits.specs.declared.profile.TheConstants.{MOST_SCRIPT_FRAMES}
@@ -12,7 +12,7 @@ use Rattle.capture.specs.declared.options.Skipped.{Skipped}
 use Rattle.capture.specs.Entries.{refusal_of}
 use Rattle.capture.specs.Record.{Record}
 
--- the records up to the n-th frame, with it
+-- The records up to and including the `n`-th frame.
 unfoldable pub first_frames : ℕ → List Entry → List Entry
 first_frames n [] = []
 first_frames zero (e ∷ entries) = []
@@ -20,18 +20,17 @@ first_frames (suc n) (Frame r ∷ entries) = Frame r ∷ first_frames n entries
 first_frames (suc n) (Faulty f ∷ entries) = Faulty f ∷ first_frames (suc n) entries
 first_frames (suc n) (Unread e ∷ entries) = Unread e ∷ first_frames (suc n) entries
 
--- whether a limit leaves room for more frames than n
+-- Whether a limit allows more than `n` frames.
 abbrev pub is_below : Option ℕ → ℕ → Bool
 is_below None n = true
 is_below (Some limit) n = nat_lt n limit
 
--- the same where there may be no limit
+-- The same for an optional limit.
 abbrev pub within : Option ℕ → List Entry → List Entry
 within None entries = entries
 within (Some n) entries = first_frames n entries
 
--- The first refusal, where the first of these is record k: a fault that is not skipped, or a frame for which there is no
--- room.
+-- The first refusal, if these begin with record `k`: an unskipped fault, or a frame that exceeds the room.
 unfoldable pub first_refusal : Bool → ℕ → ℕ → List Entry → Option CaptureError
 first_refusal skip room k [] = None
 first_refusal skip zero k (Frame r ∷ entries) = Some (TooMany k)
@@ -40,7 +39,7 @@ first_refusal true room k (Faulty f ∷ entries) = first_refusal true room (k + 
 first_refusal false room k (Faulty f ∷ entries) = Some (refusal_of f.fault k)
 first_refusal skip room k (Unread e ∷ entries) = Some e
 
--- the frames among records
+-- The frames among records.
 abbrev pub frame_in : Entry → Option Record
 frame_in (Frame r) = Some r
 frame_in (Faulty f) = None
@@ -49,7 +48,7 @@ frame_in (Unread e) = None
 abbrev pub frames_of : List Entry → List Record
 frames_of entries = filter_map frame_in entries
 
--- how many records have each fault
+-- The number of records with each fault.
 abbrev pub is_truncated : Entry → Bool
 is_truncated (Frame r) = false
 is_truncated (Unread e) = false
@@ -78,12 +77,12 @@ skipped_of entries = record {
   short = count_by is_short entries;
 }
 
--- the value, unless there is a refusal
+-- The value, unless there is a refusal.
 abbrev pub unless : {X : Type 0} → Option CaptureError → X → Result X CaptureError
 unless None x = Ok x
 unless (Some e) x = Err e
 
--- The frames that are read with these options, and how many records are left out for each fault; or the first refusal.
+-- The frames read with these options and the counts of records left out, or the first refusal.
 unfoldable pub chosen : ReadOptions → List Entry → Result (List Record × Skipped) CaptureError
 chosen options entries =
     let seen = within options.limit entries in

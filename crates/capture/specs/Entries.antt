@@ -1,4 +1,4 @@
--- What some bytes say as records: each is a frame, or has a fault.
+-- The meaning of bytes as records: each is a frame or has a fault.
 use Rattle.std.specs.Prelude.{ℕ, nat_lt, if◌then◌else◌, List, [], length, take, drop, Option, Some, None}
 use Rattle.limits.specs.declared.profile.TheConstants.{LEAST_FRAME, MOST_FRAME}
 use Rattle.refusals.specs.declared.errors.CaptureError.{CaptureError}
@@ -12,7 +12,7 @@ use Rattle.capture.specs.declared.header.Order.{Order}
 use Rattle.capture.specs.Layout.{captured_in, fraction_in, numbers_in, seconds_in, wire_len_in}
 use Rattle.capture.specs.Record.{Record, record_of}
 
--- what is wrong with a record of these lengths whose bytes are there
+-- The fault of a record with these lengths, none of whose bytes are missing.
 abbrev pub fault_of : Lengths → Option Fault
 fault_of lengths =
     if nat_lt lengths.captured lengths.wire then Some Snapped
@@ -20,12 +20,12 @@ fault_of lengths =
     else if nat_lt MOST_FRAME lengths.captured then Some Long
     else None
 
--- a record with this fault, if it has one
+-- A record with this fault, if any.
 abbrev pub entry_with : Option Fault → Lengths → Record → Entry
 entry_with None lengths r = Frame r
 entry_with (Some fault) lengths r = Faulty (record { fault = fault; lengths = Some lengths })
 
--- the record that bytes begin with, and the bytes after it; no bytes follow one that is truncated
+-- The first record in the bytes, and the bytes after it. After a truncated record, no bytes are left.
 unfoldable pub entry_in : Order → List ℕ → Entry × List ℕ
 entry_in order bytes =
     let number = numbers_in order in
@@ -38,7 +38,7 @@ entry_in order bytes =
       drop lengths.captured rest,
     )
 
--- the refusal of record k for a fault
+-- The refusal of record `k` with this fault.
 abbrev pub refusal_of : Fault → ℕ → CaptureError
 refusal_of Truncated k = CutShort k
 refusal_of Snapped k = CapturedShort k

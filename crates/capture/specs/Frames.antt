@@ -3,6 +3,6 @@ use Rattle.std.specs.Prelude.{ℕ, List, map}
 use Rattle.capture.specs.Record.{Record}
 use Rattle.wire_script.specs.Frame.{Frame, frame_of}
 
--- each at this port and queue
+-- All of them at this port and queue.
 abbrev pub frames_at : ℕ → ℕ → List Record → List Frame
 frames_at port queue records = map (λ r. frame_of port queue r.frame) records

@@ -1,4 +1,4 @@
--- How a capture's numbers stand in its bytes: the header's fields and a record's.
+-- The layout of the header and of a record in the bytes of a classic capture.
 use Rattle.std.specs.Prelude.{ℕ, ◌==◌, if◌then◌else◌, List, drop, Option, Some, None}
 use Rattle.byteorder.specs.Endian.{big_number, little_number}
 use Rattle.capture.specs.declared.header.Form.{Form}
@@ -7,17 +7,17 @@ use Rattle.capture.specs.declared.header.Order.{Order}
 use Rattle.capture.specs.declared.header.Order.TheVariants.{Big, Little}
 use Rattle.capture.specs.declared.header.TimeUnit.TheVariants.{Micros, Nanos}
 
--- how the first n bytes read as a number
+-- How to read the first `n` bytes as a number.
 abbrev pub Numbers : Type 0
 Numbers = ℕ → List ℕ → ℕ
 
--- in a byte order
+-- The same in a byte order.
 abbrev pub numbers_in : Order → Numbers
 numbers_in Big = big_number
 numbers_in Little = little_number
 
--- what the first four bytes tell, read as a big-endian number: 0xa1b2c3d4 is that of microseconds,
--- 0xa1b23c4d that of nanoseconds, and either may stand the other way round
+-- The form for the first four bytes, read as a big-endian number: 0xa1b2c3d4 for microseconds and 0xa1b23c4d for
+-- nanoseconds, each in either byte order.
 abbrev pub form_of : ℕ → Option Form
 form_of magic =
     if magic == 2712847316 then Some (record { format = Classic; order = Big; unit = Micros })
@@ -26,18 +26,18 @@ form_of magic =
     else if magic == 1295823521 then Some (record { format = Classic; order = Little; unit = Nanos })
     else None
 
--- the header's major and minor version, at bytes 4 and 6
+-- The header's major and minor version, at bytes 4 and 6.
 abbrev pub major_in : Numbers → List ℕ → ℕ
 major_in number bytes = number 2 (drop 4 bytes)
 
 abbrev pub minor_in : Numbers → List ℕ → ℕ
 minor_in number bytes = number 2 (drop 6 bytes)
 
--- its link type, at byte 20
+-- The header's link type, at byte 20.
 abbrev pub link_type_in : Numbers → List ℕ → ℕ
 link_type_in number bytes = number 4 (drop 20 bytes)
 
--- a record's seconds, fraction, captured length and length on the wire, at bytes 0, 4, 8 and 12
+-- A record's seconds, fraction, captured length and length on the wire, at bytes 0, 4, 8 and 12.
 abbrev pub seconds_in : Numbers → List ℕ → ℕ
 seconds_in number bytes = number 4 bytes
 

@@ -1,4 +1,4 @@
--- What some bytes say as a block of pcapng: a section begins, an interface is described, or there is a packet.
+-- The meaning of bytes as a pcapng block: a section header, an interface description, or a packet.
 use Rattle.std.specs.Prelude.{ℕ, Bool, suc, zero, ◌+◌, ◌-◌, ◌*◌, ◌/◌, ◌%◌, ◌^◌, ◌==◌, nat_lt, ◌||◌, ◌&&◌, not, if◌then◌else◌, List, [], length, take, drop, slice_get, slice_index, Option, Some, None}
 use Rattle.byteorder.specs.Endian.{big_number}
 use Rattle.refusals.specs.declared.errors.CaptureError.TheVariants.{NotCapture, LinkType}
@@ -15,23 +15,23 @@ use Rattle.capture.specs.Entries.{entry_with, fault_of}
 use Rattle.capture.specs.Layout.{Numbers, numbers_in}
 use Rattle.capture.specs.Record.{record_of}
 
--- the byte order that a section header's magic tells, read as a big-endian number: 0x1a2b3c4d, or the other way round
+-- The byte order for a section header's magic number, read as big-endian: 0x1a2b3c4d, or reversed.
 abbrev pub order_of : ℕ → Option Order
 order_of magic =
     if magic == 439041101 then Some Big
     else if magic == 1295788826 then Some Little
     else None
 
--- whether bytes begin with a section header: type 0x0a0d0d0a, which is the same in both orders
+-- Whether the bytes begin with a section header: type 0x0a0d0d0a, the same in both orders.
 abbrev pub is_section : List ℕ → Bool
 is_section bytes = big_number 4 bytes == 168627466
 
--- the order of the block that bytes begin with: a section header tells its own
+-- The byte order of the first block in the bytes. A section header states its own.
 abbrev pub block_order : Order → List ℕ → Option Order
 block_order order bytes = if is_section bytes then order_of (big_number 4 (drop 8 bytes)) else Some order
 
--- The time of so many ticks as seconds and nanoseconds, where a second has 10 ^ resolution of them, up to 10 ^ 9. Another
--- resolution, or a time of 2 ^ 32 seconds or more, is 0.
+-- `ticks` as seconds and nanoseconds, if a second has 10 ^ resolution ticks, at most 10 ^ 9. For other resolutions,
+-- and from 2 ^ 32 seconds on, the time is 0.
 abbrev pub time_with : ℕ → ℕ → ℕ × ℕ
 time_with seconds nanos = if nat_lt seconds (2 ^ 32) then (seconds, nanos) else (0, 0)
 
@@ -40,18 +40,18 @@ time_of resolution ticks =
     if nat_lt 9 resolution then (0, 0)
     else time_with (ticks / 10 ^ resolution) (ticks % 10 ^ resolution * 10 ^ (9 - resolution))
 
--- a packet of these lengths, at this time, whose bytes are among the data
+-- The packet with these lengths and this time, whose data are the first of `bytes`.
 abbrev pub held_in : Lengths → ℕ × ℕ → List ℕ → Entry
 held_in lengths time bytes =
     if nat_lt (length bytes) lengths.captured then Faulty (record { fault = Truncated; lengths = Some lengths })
     else entry_with (fault_of lengths) lengths (record_of time.0 time.1 lengths.wire (take lengths.captured bytes))
 
--- the Ethernet interface of this number
+-- The interface, if it is Ethernet.
 abbrev pub if_ethernet : Option Interface → Option Interface
 if_ethernet None = None
 if_ethernet (Some i) = if i.link_type == 1 then Some i else None
 
--- an enhanced packet: its interface, the high and low half of its time, its lengths, and its data from byte 28
+-- An enhanced packet: its interface, the high and low half of its time, its lengths, and its data from byte 28.
 unfoldable pub enhanced_with : Numbers → Option Interface → List ℕ → Entry
 enhanced_with number None block = Unread LinkType
 enhanced_with number (Some i) block =
@@ -64,8 +64,8 @@ enhanced_in number interfaces block =
     if nat_lt (length block) 32 then Unread NotCapture
     else enhanced_with number (if_ethernet (slice_get interfaces (number 4 (drop 8 block)))) block
 
--- a simple packet, of interface 0, with no time: its length on the wire, of which the snap length was captured, if there is
--- one, and its data from byte 12
+-- A simple packet, from interface 0 and without a time: its length on the wire, and its data from byte 12. The
+-- interface's snap length, if any, limits the captured length.
 abbrev pub snapped_len : ℕ → ℕ → ℕ
 snapped_len snap_len wire = if not (snap_len == 0) && nat_lt snap_len wire then snap_len else wire
 
@@ -81,8 +81,8 @@ simple_in number interfaces block =
     if nat_lt (length block) 16 then Unread NotCapture
     else simple_with number (if_ethernet (slice_get interfaces 0)) block
 
--- The resolution that options tell: each has a code, a length, and so many bytes, padded to fours. Code 9 is the
--- resolution, code 0 the end. It is 6, microseconds, where no option tells it.
+-- The time resolution in the options. Each option has a code, a length, and that many bytes, padded to a multiple of
+-- 4. Code 9 is the resolution, code 0 the end. Without code 9 it is 6: microseconds.
 unfoldable pub resolution_from : Numbers → ℕ → List ℕ → ℕ
 resolution_from number zero options = 6
 resolution_from number (suc steps) options =
@@ -95,7 +95,7 @@ resolution_from number (suc steps) options =
 abbrev pub resolution_in : Numbers → List ℕ → ℕ
 resolution_in number options = resolution_from number (length options) options
 
--- an interface: its link type, its snap length, and options from byte 16
+-- An interface: its link type, its snap length, and options from byte 16.
 unfoldable pub interface_in : Numbers → List ℕ → Piece
 interface_in number block =
     if nat_lt (length block) 20 then Packet (Unread NotCapture)
@@ -105,13 +105,13 @@ interface_in number block =
       resolution = resolution_in number (take (length block - 20) (drop 16 block));
     })
 
--- a section header of version 1
+-- A section header of version 1.
 unfoldable pub section_in : Order → List ℕ → Piece
 section_in order block =
     if nat_lt (length block) 28 || not (numbers_in order 2 (drop 12 block) == 1) then Packet (Unread NotCapture)
     else Section order
 
--- what a whole block says, by its type
+-- The meaning of a complete block, by its type.
 unfoldable pub meaning_in : Order → List Interface → List ℕ → Piece
 meaning_in order interfaces block =
     let number = numbers_in order in
@@ -122,7 +122,7 @@ meaning_in order interfaces block =
     else if type == 6 then Packet (enhanced_in number interfaces block)
     else Other
 
--- A block begins with its type and its length and ends with its length again; this is a multiple of 4, and 12 at least.
+-- A block begins with its type and length and ends with its length, a multiple of 4 and at least 12.
 unfoldable pub block_with : Option Order → List Interface → List ℕ → Piece × List ℕ
 block_with None interfaces bytes = (Packet (Unread NotCapture), [])
 block_with (Some order) interfaces bytes =
@@ -133,7 +133,7 @@ block_with (Some order) interfaces bytes =
     else if not (numbers_in order 4 (drop (total - 4) block) == total) then (Packet (Unread NotCapture), [])
     else (meaning_in order interfaces block, drop total bytes)
 
--- the block that bytes begin with in a section of this order and with these interfaces, and the bytes after it
+-- The first block in the bytes, in a section of this order with these interfaces, and the bytes after it.
 unfoldable pub block_in : Order → List Interface → List ℕ → Piece × List ℕ
 block_in order interfaces bytes =
     if nat_lt (length bytes) 12 then (Packet (Faulty (record { fault = Truncated; lengths = None })), [])

@@ -1,4 +1,4 @@
--- What some bytes say as a capture.
+-- The meaning of bytes as a capture.
 use Rattle.std.specs.Prelude.{ℕ, ◌==◌, nat_lt, ◌&&◌, not, Bool, false, if◌then◌else◌, List, [], length, drop, Option, Some, None, Result, Ok, Err}
 use Rattle.byteorder.specs.Endian.{big_number}
 use Rattle.refusals.specs.declared.errors.CaptureError.{CaptureError}
@@ -19,28 +19,28 @@ use Rattle.capture.specs.Pcapng.{block_in, is_section}
 use Rattle.capture.specs.Record.{Record}
 use Rattle.capture.specs.Sources.{entries_in, source_of}
 
--- what a capture has: the unit of its fractions of seconds, and its records
+-- The content of a capture: the unit of its fractions of a second, and its records.
 pub record Content : Type 0 where
   pub unit : TimeUnit
   pub records : List Record
 
--- a header of version 2.4 and of Ethernet, or the first of these that is wrong
+-- A header of version 2.4 for Ethernet, or its first fault.
 unfoldable pub checked_header : Numbers → Form → List ℕ → Result Form CaptureError
 checked_header number form bytes =
     if not (major_in number bytes == 2 && minor_in number bytes == 4) then Err NotCapture
     else if not (link_type_in number bytes == 1) then Err LinkType
     else Ok form
 
--- a header that begins as this tells
+-- The header of this form.
 abbrev pub header_with : Option Form → List ℕ → Result Form CaptureError
 header_with None bytes = Err NotCapture
 header_with (Some form) bytes = checked_header (numbers_in form.order) form bytes
 
--- the header of classic pcap that bytes begin with
+-- The header of classic pcap at the start of the bytes.
 unfoldable pub classic_header_in : List ℕ → Result Form CaptureError
 classic_header_in bytes = if nat_lt (length bytes) 24 then Err NotCapture else header_with (form_of (big_number 4 bytes)) bytes
 
--- a file of pcapng begins with a section header, which tells the order; its times are read as nanoseconds
+-- A pcapng file begins with a section header, which determines the byte order. Its times are read as nanoseconds.
 abbrev pub is_blocks : List ℕ → Bool
 is_blocks bytes = not (nat_lt (length bytes) 4) && is_section bytes
 
@@ -53,7 +53,7 @@ form_with Other rest = Err NotCapture
 unfoldable pub blocks_header_in : List ℕ → Result (Form × List ℕ) CaptureError
 blocks_header_in bytes = let p = block_in Big [] bytes in form_with p.0 p.1
 
--- what the first bytes tell, and the bytes where the records or blocks begin
+-- The form of the capture, and its bytes after the header.
 unfoldable pub header_in : List ℕ → Result (Form × List ℕ) CaptureError
 header_in bytes =
     if is_blocks bytes then blocks_header_in bytes
@@ -61,18 +61,18 @@ header_in bytes =
       form ← classic_header_in bytes
       Ok (form, drop 24 bytes)
 
--- what is read of a capture's bytes with these options, and how many records are left out; or their first fault
+-- The records read with these options and the counts of records left out, or the first fault.
 unfoldable pub capture_with : ReadOptions → List ℕ → Result (Content × Skipped) CaptureError
 capture_with options bytes = do
   header ← header_in bytes
   found ← chosen options (entries_in (source_of header.0) header.1)
   Ok (record { unit = header.0.unit; records = found.0 }, found.1)
 
--- with these options all records are read, and a fault is refused
+-- The options that read all records and refuse a fault.
 abbrev pub all_records : ReadOptions
 all_records = record { skip = false; limit = None }
 
--- what bytes say as a capture, or their first fault
+-- The meaning of bytes as a capture, or their first fault.
 unfoldable pub capture_in : List ℕ → Result Content CaptureError
 capture_in bytes = do
   found ← capture_with all_records bytes

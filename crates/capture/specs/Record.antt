@@ -1,8 +1,8 @@
--- What a record of a capture is, apart from where it lies in memory.
+-- A record of a capture, independent of its place in memory.
 use Rattle.std.specs.Prelude.{ℕ, ◌<◌, ◌≤◌, ◌^◌, List, length}
 use Rattle.limits.specs.declared.profile.TheConstants.{LEAST_FRAME, MOST_FRAME}
 
--- a record: the time of its capture, the frame's length on the wire and the captured bytes
+-- A record: the time of its capture, the frame's length on the wire and the captured bytes.
 pub record Record : Type 0 where
   pub seconds : ℕ
   pub fraction : ℕ
@@ -13,7 +13,7 @@ abbrev pub record_of : ℕ → ℕ → ℕ → List ℕ → Record
 record_of seconds fraction wire_len frame =
     record { seconds = seconds; fraction = fraction; wire_len = wire_len; frame = frame }
 
--- the record is one that is read and written
+-- A record that is read and written.
 pub record InRange (r : Record) : Type 0 where
   pub seconds : r.seconds < 2 ^ 32
   pub fraction : r.fraction < 2 ^ 32

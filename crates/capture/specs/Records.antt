@@ -4,19 +4,19 @@ use Rattle.std.specs.List.{filter}
 use Rattle.capture.specs.Record.{Record, record_of}
 use Rattle.wire_script.specs.Frame.{Frame}
 
--- a frame at so many microseconds
+-- A frame at `micros` microseconds.
 abbrev pub record_at : ℕ → Frame → Record
 record_at micros frame = record_of (micros / 1000000) (micros % 1000000) (length frame.bytes) frame.bytes
 
--- frames of which the first is at so many microseconds, and each other one later than the one before it
+-- The first frame at `micros` microseconds, and each further one a microsecond after the one before.
 abbrev pub records_from : ℕ → List Frame → List Record
 records_from micros [] = []
 records_from micros (frame ∷ frames) = record_at micros frame ∷ records_from (micros + 1) frames
 
--- the frames of a port
+-- The frames of a port.
 abbrev pub frames_of_port : ℕ → List Frame → List Frame
 frames_of_port port frames = filter (λ f. f.port == port) frames
 
--- the records of a port's frames
+-- The records of a port's frames.
 abbrev pub records_of_port : ℕ → List Frame → List Record
 records_of_port port frames = records_from 0 (frames_of_port port frames)

@@ -1,4 +1,4 @@
--- All packets of a capture, as its records or its blocks say them one after the other.
+-- All packets of a capture, in the order of its records or blocks.
 use Rattle.std.specs.Prelude.{ℕ, suc, zero, List, [], ◌∷◌, ◌++◌, length}
 use Rattle.capture.specs.declared.entry.Entry.{Entry}
 use Rattle.capture.specs.declared.header.Form.{Form}
@@ -11,17 +11,17 @@ use Rattle.capture.specs.declared.piece.Piece.TheVariants.{Packet, Section, Desc
 use Rattle.capture.specs.Entries.{entry_in}
 use Rattle.capture.specs.Pcapng.{block_in}
 
--- how a capture is read at one place: its format, the order of its numbers, and the interfaces of its section so far
+-- The state of reading at one place: the format, the byte order, and the interfaces of the section so far.
 pub record Source : Type 0 where
   pub format : Format
   pub order : Order
   pub interfaces : List Interface
 
--- where the header ends
+-- The state after the header.
 abbrev pub source_of : Form → Source
 source_of form = record { format = form.format; order = form.order; interfaces = [] }
 
--- the piece that bytes begin with, and the bytes after it
+-- The first piece in the bytes, and the bytes after it.
 abbrev pub piece_of_format : Format → Order → List Interface → List ℕ → Piece × List ℕ
 piece_of_format Classic order interfaces bytes = let p = entry_in order bytes in (Packet p.0, p.1)
 piece_of_format Blocks order interfaces bytes = block_in order interfaces bytes
@@ -29,21 +29,21 @@ piece_of_format Blocks order interfaces bytes = block_in order interfaces bytes
 abbrev pub piece_in : Source → List ℕ → Piece × List ℕ
 piece_in s bytes = piece_of_format s.format s.order s.interfaces bytes
 
--- how the pieces after this one are read: a section has interfaces of its own
+-- The state after this piece. A new section has no interfaces yet.
 abbrev pub source_after : Source → Piece → Source
 source_after s (Packet entry) = s
 source_after s (Section order) = record { format = s.format; order = order; interfaces = [] }
 source_after s (Described interface) = record { format = s.format; order = s.order; interfaces = s.interfaces ++ interface ∷ [] }
 source_after s Other = s
 
--- the packet that a piece has
+-- The packet in a piece.
 abbrev pub packets_of : Piece → List Entry
 packets_of (Packet entry) = entry ∷ []
 packets_of (Section order) = []
 packets_of (Described interface) = []
 packets_of Other = []
 
--- all packets of some bytes. A piece has a byte at least, so as many steps as there are bytes are enough.
+-- All packets in the bytes. A piece has at least one byte, so one step per byte suffices.
 unfoldable pub entries_from : Source → ℕ → List ℕ → List Entry
 entries_from s steps [] = []
 entries_from s zero (b ∷ bytes) = []

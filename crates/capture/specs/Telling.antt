@@ -1,4 +1,4 @@
--- What a message says of a file that is refused.
+-- Details of a refused file.
 use Rattle.std.specs.Prelude.{ℕ, suc, zero, ◌-◌, ◌==◌, nat_eq, nat_lt, Bool, if◌then◌else◌, List, [], ◌∷◌, length, codes, Option, Some, None, Result, Ok, Err}
 use Rattle.std.specs.List.{starts_with}
 use Rattle.byteorder.specs.Endian.{big_number}
@@ -17,11 +17,11 @@ use Rattle.capture.specs.Layout.{form_of, link_type_in, numbers_in}
 use Rattle.capture.specs.Reading.{header_in}
 use Rattle.capture.specs.Sources.{entries_in, source_of}
 
--- a gzip file begins with 1f 8b
+-- A gzip file begins with 1f 8b.
 abbrev pub is_gzip : List ℕ → Bool
 is_gzip bytes = starts_with nat_eq bytes (31 ∷ 139 ∷ [])
 
--- the name of a link type, as libpcap has it
+-- The libpcap name of a link type.
 abbrev pub name_of_link_type : ℕ → Option (List ℕ)
 name_of_link_type n =
     if n == 0 then Some (codes "NULL")
@@ -44,7 +44,7 @@ name_of_link_type n =
     else if n == 276 then Some (codes "LINUX_SLL2")
     else None
 
--- the link type that the header of classic pcap tells, whatever its version
+-- The link type in a classic pcap header of any version.
 abbrev pub link_type_with : Option Form → List ℕ → Option ℕ
 link_type_with None bytes = None
 link_type_with (Some form) bytes = Some (link_type_in (numbers_in form.order) bytes)
@@ -52,26 +52,27 @@ link_type_with (Some form) bytes = Some (link_type_in (numbers_in form.order) by
 abbrev pub link_type_of : List ℕ → Option ℕ
 link_type_of bytes = if nat_lt (length bytes) 24 then None else link_type_with (form_of (big_number 4 bytes)) bytes
 
--- the limit of a frame's length that a fault breaks
+-- The limit of the frame length that a fault breaks.
 abbrev pub limit_of : Fault → Option ℕ
 limit_of Truncated = None
 limit_of Snapped = None
 limit_of Long = Some MOST_FRAME
 limit_of Short = Some LEAST_FRAME
 
--- what is wrong with a packet, if it is faulty
+-- The fault of a packet, if any.
 abbrev pub faulty_in : Entry → Option FaultyRecord
 faulty_in (Frame r) = None
 faulty_in (Faulty f) = Some f
 faulty_in (Unread e) = None
 
--- what is wrong with the packet after so many others
+-- The fault of the packet after `n` others.
 unfoldable pub fault_after : ℕ → List Entry → Option FaultyRecord
 fault_after n [] = None
 fault_after zero (e ∷ entries) = faulty_in e
 fault_after (suc n) (e ∷ entries) = fault_after n entries
 
--- what is wrong with the packet of a piece, and how many packets are left after it, unless it is the packet
+-- The fault of a piece's packet. `left_after`: how many packets to pass after it, or `None` if it is the packet
+-- sought.
 abbrev pub fault_in_piece : Piece → Option FaultyRecord
 fault_in_piece (Packet entry) = faulty_in entry
 fault_in_piece (Section order) = None
@@ -84,7 +85,7 @@ left_after n (Section order) = Some n
 left_after n (Described interface) = Some n
 left_after n Other = Some n
 
--- what is wrong with packet k of a capture, counted from 1
+-- The fault of packet `k` of a capture, counted from 1.
 unfoldable pub fault_details : ℕ → List ℕ → Result (Option FaultyRecord) CaptureError
 fault_details k bytes = do
   header ← header_in bytes

@@ -18,7 +18,7 @@ pub struct Interface {
 pub enum Piece<'a> {
     /// A packet.
     Packet(Entry<'a>),
-    /// The begin of a section with this byte order.
+    /// The beginning of a section with this byte order.
     Section(Order),
     /// The description of an interface.
     Described(Interface),

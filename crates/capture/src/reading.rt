@@ -33,11 +33,11 @@ pub(crate) const HEADER: usize = 24;
 /// captured length is read with all its captured bytes.
 ///
 /// In pcapng, enhanced and simple packet blocks of all sections are read; other blocks are skipped. Records are
-/// counted from 1 over all packet blocks. A malformed block or a section of another version than 1 is refused with
-/// 91, a packet whose interface is undescribed or not Ethernet with 92, and a packet that is longer than its block or
-/// cut by the end of the file with 93. Times are in nanoseconds. A time is 0 if the block has none, if it is 2^32
-/// seconds or more, or if `if_tsresol` states a power of two or more than 10^9 ticks per second. `if_tsoffset` is
-/// ignored.
+/// counted from 1 over all packet blocks. A malformed block, a section of another version than 1, or a first block
+/// that is cut by the end of the file is refused with 91, and a packet whose interface is undescribed or not Ethernet
+/// with 92. A later block that is cut by the end of the file, or a packet that is longer than its block, is refused
+/// with 93. Times are in nanoseconds. A time is 0 if the block has none, if it is 2^32 seconds or more, or if
+/// `if_tsresol` states a power of two or more than 10^9 ticks per second. `if_tsoffset` is ignored.
 ///
 /// Reads the bytes once and copies none. Needs at most 64 bytes of memory per record from the second record on: 32
 /// for each, in a list that grows by doubling. For pcapng, also keeps the interfaces of a section.

@@ -11,14 +11,14 @@ use Rattle.schedules.specs.declared.plan.SchedulePlan.{SchedulePlan}
 use Rattle.schedule_command.specs.declared.request.ScheduleRequest.{ScheduleRequest}
 use Rattle.command_line.specs.OptionWords.{HasFlag, HasNumber, SaysNumber, SaysNumberBelow, bounded_rule, flag_rule, flag_words, is_head, number_rule, queue_rules, with_rules}
 
--- a number that has to be said, and how many of a hundred
+-- A required number, and a percentage.
 abbrev pub said_rule : Text → Rule
 said_rule id = bounded_rule id 4294967295 []
 
 abbrev pub share_rule : Text → Rule
 share_rule id = bounded_rule id 100 (codes "0" ∷ [])
 
--- the command `schedules`
+-- The command `schedules`.
 abbrev pub schedules_app : App
 schedules_app = with_rules (codes "schedules") (said_rule (codes "seed")
     ∷ said_rule (codes "moves")
@@ -33,7 +33,7 @@ schedules_app = with_rules (codes "schedules") (said_rule (codes "seed")
     ∷ flag_rule (codes "recommended")
     ∷ [])
 
--- whether what is expected is printed as objects, and whether with registers
+-- Whether the expected output is printed as objects, and whether with registers.
 abbrev pub expects_json : Option Shown → Bool
 expects_json None = false
 expects_json (Some form) = form.json
@@ -42,21 +42,21 @@ abbrev pub expects_registers : Option Shown → Bool
 expects_registers None = false
 expects_registers (Some form) = form.registers
 
--- no queue is drawn in what is expected
+-- The expected output has no pictures.
 abbrev pub IsUndrawn : Option Shown → Type 0
 IsUndrawn None = Unit {0}
 IsUndrawn (Some form) = form.pictures ≡ Never
 
--- the words behind the numbers: `--expect` where each list is followed by what `replay` prints of it, with `--json` where that is
--- objects and `--registers` where registers are shown, and `--device-only-real` where only moves of silicon are made
+-- The last words: `--expect` if the output of `replay` follows each list, `--json` if it is printed as objects,
+-- `--registers` if registers are shown, and `--device-only-real` if only moves of silicon are made.
 abbrev pub last_words : Option Shown → Bool → List Text
 last_words expect device_only =
     flag_words (codes "--expect") (is_some expect)
     ++ (flag_words (codes "--json") (expects_json expect)
     ++ (flag_words (codes "--registers") (expects_registers expect) ++ flag_words (codes "--device-only-real") device_only))
 
--- the words are `schedules` and its options in this order: the seed and the moves of a list always, `--off` where the queues
--- begin disabled, `--head` where they report by a head word, and the last words
+-- The words are `schedules` and its options in this order: the seed and the number of moves; `--off` if the queues
+-- begin disabled; `--head` if they report by a head word; and the last words.
 pub record SaysSchedules (words : List Text) (request : ScheduleRequest) : Type 0 where
   pub count : List Text
   pub ring : List Text
@@ -75,14 +75,14 @@ pub record SaysSchedules (words : List Text) (request : ScheduleRequest) : Type 
       ++ (refused ++ last_words request.expect request.plan.device_only))))))
   pub undrawn : IsUndrawn request.expect
 
--- the recommended lists, for any queues
+-- The recommended lists, for any queues.
 pub record IsRecommended (request : ScheduleRequest) : Type 0 where
   pub seed : request.seed ≡ 82599
   pub count : request.count ≡ 4
   pub moves : request.plan.moves ≡ 2000
   pub refused : request.plan.refused ≡ 10
 
--- the words are `schedules --recommended` and its options in the same order
+-- The words are `schedules --recommended` and its options in the same order.
 pub record SaysRecommended (words : List Text) (request : ScheduleRequest) : Type 0 where
   pub recommended : IsRecommended request
   pub ring : List Text
@@ -95,18 +95,18 @@ pub record SaysRecommended (words : List Text) (request : ScheduleRequest) : Typ
       ++ (flag_words (codes "--head") (is_head request.plan.completion) ++ last_words request.expect request.plan.device_only))))
   pub undrawn : IsUndrawn request.expect
 
--- either asks for lists that are drawn
+-- The words request drawn lists, in either form.
 abbrev pub SaysLists : List Text → ScheduleRequest → Type 0
 SaysLists words request = SaysSchedules words request ⊎ SaysRecommended words request
 
--- the words are `schedules --cover` and its options in this order: `--head` where the transmit queue reports by a head word, and
--- the last words
+-- The words are `schedules --cover` and its options in this order: `--head` if the transmit queue reports by a head
+-- word, and the last words.
 pub record SaysCover (words : List Text) (request : CoverRequest) : Type 0 where
   pub words_are : words ≡ codes "schedules" ∷ codes "--cover"
       ∷ (flag_words (codes "--head") (is_head request.completion) ++ last_words request.expect request.device_only)
   pub undrawn : IsUndrawn request.expect
 
--- an option stands among the words, where its value is not its default
+-- The value comes from the words, and not from the default.
 abbrev pub by_words : Option ValueSource → Bool
 by_words (Some CommandLine) = true
 by_words (Some DefaultValue) = false
@@ -115,18 +115,18 @@ by_words None = false
 abbrev pub is_said : Text → List Row → Bool
 is_said id rows = by_words (option_and_then (λ r. r.source) (find (λ r. bytes_eq r.id id) rows))
 
--- one stands that says how lists are drawn
+-- An option of drawn lists is given.
 abbrev pub draws : List Row → Bool
 draws rows =
     is_said (codes "seed") rows || (is_said (codes "moves") rows || (is_said (codes "count") rows || (is_said (codes "ring") rows
     || (is_said (codes "pairs") rows || (is_said (codes "off") rows || (is_said (codes "refused") rows || is_said (codes "recommended") rows))))))
 
--- one stands that says how many lists there are, of how many moves, or which
+-- An option is given that determines the number, length or content of lists.
 abbrev pub counts : List Row → Bool
 counts rows =
     is_said (codes "seed") rows || (is_said (codes "moves") rows || (is_said (codes "count") rows || is_said (codes "refused") rows))
 
--- the values of the arguments
+-- The values of the arguments.
 pub record HasExpect (rows : List Row) (expect : Option Shown) : Type 0 where
   pub stands : HasFlag rows (codes "expect") (is_some expect)
   pub json : HasFlag rows (codes "json") (expects_json expect)

@@ -58,7 +58,7 @@ pub enum Asked<'a> {
     Capture(CaptureRequest),
     /// A request for drawn lists of moves.
     Schedules(ScheduleRequest),
-    /// A request for lists of moves that together cover all that a queue can do.
+    /// A request for lists of moves that together meet every reachable pair of a queue.
     Cover(CoverRequest),
 }
 
@@ -161,7 +161,7 @@ fn decode_in<'a>(decode: &ArgMatches<'a>) -> Option<Request<'a>>
     Some(Request::Decode { form, digits })
 }
 
-/// The request in matches of `replay`, if its pictures can be read, and none is to be drawn among objects.
+/// Reads the request from matches of `replay`. Returns `None` if `--picture` is not valid or is given with `--json`.
 fn replay_in<'a>(replay: &ArgMatches<'a>) -> Option<Request<'a>>
     ensures { (plan : QueuePlan) → HasReplay (rows_of (found_of replay.now)) plan
         → IsSomeAnd result (λ r. IsReplayOf r plan) }

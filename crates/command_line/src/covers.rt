@@ -1,4 +1,4 @@
-//! What is asked for in matches of `schedules` with `--cover`.
+//! Reads the request of `schedules --cover` from matches.
 ghost use Rattle.std.specs.Prelude.{◌≡◌, Some};
 ghost use Rattle.clap.specs.Words.{found_of, rows_of};
 ghost use Rattle.cover_command.specs.declared.request.CoverRequest.{CoverRequest as Covering};
@@ -11,8 +11,8 @@ use clap::ArgMatches;
 use clap::parser::ValueSource;
 use cover_command::CoverRequest;
 
-/// The request in matches of `schedules` with `--cover`, if no option stands beside it that says how lists are drawn, and
-/// a form stands only beside `--expect`.
+/// Reads the request from matches of `schedules` with `--cover`. Returns `None` if an option of drawn lists is given,
+/// or a form of the expected output without `--expect`.
 pub(crate) fn cover_in<'a>(matches: &ArgMatches<'a>) -> Option<CoverRequest>
     ensures { (request : Covering) → HasCover (rows_of (found_of matches.now)) request → result ≡ Some request }
 {
@@ -29,7 +29,7 @@ pub(crate) fn cover_in<'a>(matches: &ArgMatches<'a>) -> Option<CoverRequest>
     })
 }
 
-/// Whether an option stands that says how lists are drawn.
+/// Whether an option of drawn lists is given.
 fn draws<'a>(matches: &ArgMatches<'a>) -> bool
     ensures { result ≡ draws (rows_of (found_of matches.now)) }
 {
@@ -43,14 +43,14 @@ fn draws<'a>(matches: &ArgMatches<'a>) -> bool
         || is_said(matches, "recommended")
 }
 
-/// Whether an option stands among the words. One that is left out may have a value, which is its default.
+/// Whether an option is given among the words. An omitted one may still have a value, its default.
 pub(crate) fn is_said<'a>(matches: &ArgMatches<'a>, id: &str) -> bool
     ensures { result ≡ is_said id.now (rows_of (found_of matches.now)) }
 {
     by_words(matches.value_source(id))
 }
 
-/// Whether a value came from the words.
+/// Whether a value comes from the words.
 fn by_words(source: Option<ValueSource>) -> bool
     ensures { result ≡ by_words source }
 {

@@ -1,4 +1,4 @@
-//! Which queues are drawn, in matches of `replay`.
+//! Reads the option `--picture` of `replay` from matches.
 ghost use Rattle.std.specs.Prelude.{◌≡◌, Some, codes};
 ghost use Rattle.clap.specs.Words.{first_of, found_of, rows_of};
 ghost use Rattle.commands.specs.declared.replay.Pictures.{Pictures as Drawn};
@@ -7,7 +7,7 @@ ghost use Rattle.command_line.specs.OptionWords.{draws_any, picture_value};
 use clap::ArgMatches;
 use commands::Pictures;
 
-/// Behind which lines a queue is drawn, in matches of `replay`, if the option's value is one of its words.
+/// Reads after which moves queues are drawn from matches of `replay`. Returns `None` if the value is not valid.
 pub(crate) fn pictures_in<'a>(replay: &ArgMatches<'a>) -> Option<Pictures>
     ensures { (pictures : Drawn) → first_of (codes "picture") (rows_of (found_of replay.now)) ≡ picture_value pictures
         → result ≡ Some pictures }
@@ -18,7 +18,7 @@ pub(crate) fn pictures_in<'a>(replay: &ArgMatches<'a>) -> Option<Pictures>
     }
 }
 
-/// What this word asks for.
+/// The meaning of this word.
 fn pictures_named(word: &str) -> Option<Pictures>
     ensures { (pictures : Drawn) → Some word.now ≡ picture_value pictures → result ≡ Some pictures }
 {

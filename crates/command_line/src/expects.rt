@@ -1,4 +1,4 @@
-//! What follows each list, in matches of `schedules`.
+//! Reads the form of the expected output of `schedules` from matches.
 ghost use Rattle.std.specs.Prelude.{◌≡◌, Option, Some};
 ghost use Rattle.clap.specs.Words.{found_of, rows_of};
 ghost use Rattle.commands.specs.declared.replay.Shown.{Shown as Form};
@@ -8,8 +8,8 @@ use crate::reading::flag_in;
 use clap::ArgMatches;
 use commands::{Pictures, Shown};
 
-/// The form in which each list is followed by what `replay` prints of it, if it is. `None` where a form is given without
-/// `--expect`.
+/// Reads the form in which the output of `replay` follows each list: `Some(None)` without `--expect`. Returns `None`
+/// if a form is given without `--expect`.
 pub(crate) fn expect_in<'a>(matches: &ArgMatches<'a>) -> Option<Option<Shown>>
     ensures { (expect : Option Form) → HasExpect (rows_of (found_of matches.now)) expect → result ≡ Some expect }
 {

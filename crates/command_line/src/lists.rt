@@ -1,4 +1,4 @@
-//! What is asked for in matches of `schedules`.
+//! Reads the request of `schedules` from matches.
 ghost use Rattle.std.specs.Prelude.{◌≡◌, Some, IfSome, IsSomeAnd};
 ghost use Rattle.clap.specs.Words.{found_of, rows_of};
 ghost use Rattle.schedules.specs.declared.plan.SchedulePlan.{SchedulePlan as Plan};
@@ -15,8 +15,7 @@ use clap::ArgMatches;
 use schedule_command::ScheduleRequest;
 use schedules::SchedulePlan;
 
-/// The recommended lists: their seed, how many there are, how many moves each has, and how many of a hundred at most don't
-/// happen.
+/// The recommended lists: seed, number of lists, moves per list, and maximum percentage of moves that do not happen.
 const SEED: u32 = 82_599;
 
 const COUNT: u32 = 4;
@@ -25,8 +24,8 @@ const MOVES: u32 = 2000;
 
 const REFUSED: u32 = 10;
 
-/// What is asked for in matches of `schedules`: lists that are drawn, or with `--cover` lists that together meet all that a
-/// queue can do.
+/// Reads the request from matches of `schedules`: drawn lists, or with `--cover` lists that together meet every
+/// reachable pair.
 pub(crate) fn lists_in<'a>(matches: &ArgMatches<'a>) -> Option<Asked<'a>>
     ensures schedules { (request : Lists) → HasLists (rows_of (found_of matches.now)) request
         → IsSomeAnd result (λ a. IsSchedules a request) }
@@ -41,7 +40,7 @@ pub(crate) fn lists_in<'a>(matches: &ArgMatches<'a>) -> Option<Asked<'a>>
     }
 }
 
-/// The lists that are drawn: the recommended ones, or those of the numbers that are given.
+/// Reads the request for drawn lists: the recommended ones, or those with the given numbers.
 fn drawn_in<'a>(matches: &ArgMatches<'a>) -> Option<ScheduleRequest>
     ensures { (request : Lists) → HasLists (rows_of (found_of matches.now)) request → result ≡ Some request }
 {
@@ -52,7 +51,7 @@ fn drawn_in<'a>(matches: &ArgMatches<'a>) -> Option<ScheduleRequest>
     }
 }
 
-/// The recommended lists, if no option stands beside `--recommended` that says how many there are and of what.
+/// Reads the request for the recommended lists. Returns `None` if an option changes their number, length or content.
 fn recommended_in<'a>(matches: &ArgMatches<'a>) -> Option<ScheduleRequest>
     ensures { (request : Lists) → HasRecommended (rows_of (found_of matches.now)) request → result ≡ Some request }
 {
@@ -69,7 +68,7 @@ fn recommended_in<'a>(matches: &ArgMatches<'a>) -> Option<ScheduleRequest>
     })
 }
 
-/// Whether an option stands that says how many lists there are, of how many moves, or which.
+/// Whether an option is given that determines the number, length or content of lists.
 fn counts<'a>(matches: &ArgMatches<'a>) -> bool
     ensures { result ≡ counts (rows_of (found_of matches.now)) }
 {
@@ -79,7 +78,7 @@ fn counts<'a>(matches: &ArgMatches<'a>) -> bool
         || is_said(matches, "refused")
 }
 
-/// The request in matches of `schedules`, if they have the seed and the moves.
+/// Reads the request for lists with a seed and a number of moves. Returns `None` if one of them is missing.
 fn schedules_in<'a>(matches: &ArgMatches<'a>) -> Option<ScheduleRequest>
     ensures { (request : Lists) → HasSchedules (rows_of (found_of matches.now)) request → result ≡ Some request }
 {
@@ -97,7 +96,7 @@ fn schedules_in<'a>(matches: &ArgMatches<'a>) -> Option<ScheduleRequest>
     })
 }
 
-/// How a list of so many moves is drawn, for the queues in matches of `schedules`.
+/// Reads the plan of a list with this number of moves, for the queues in matches of `schedules`.
 fn plan_in<'a>(matches: &ArgMatches<'a>, moves: u32, refused: u32) -> Option<SchedulePlan>
     ensures { (plan : Plan) → HasQueues (rows_of (found_of matches.now)) plan → moves ≡ plan.moves → refused ≡ plan.refused
         → result ≡ Some plan }

@@ -1,4 +1,4 @@
--- What `replay` reads and prints: a list of moves, one a line, and what each of them tells.
+-- The input and output of `replay`: a list of moves, one per line, and the note of each.
 use Rattle.std.specs.Prelude.{◌≡◌, ◌≢◌, ◌⊎◌, ℕ, ◌+◌, Bool, true, false, List, [], ◌∷◌, ◌++◌, codes, decimal, length, map, Option, Some, None, IfSome, All, if◌then◌else◌}
 use Rattle.std.specs.List.{filter}
 use Rattle.std.specs.Io.KnownBytes.{Appends, Keeps}
@@ -28,7 +28,7 @@ use Rattle.commands.specs.declared.refusal.Refusal.{Refusal}
 use Rattle.commands.specs.declared.refusal.Refusal.TheVariants as refusal
 use Rattle.commands.specs.Lists.{lists_of}
 
--- the lines that are not passed over are the texts of these moves, in order
+-- The lines that are not skipped are the texts of these moves, in order.
 pub record Says (lines : List (List ℕ)) (moves : List Move) : Type 0 where
   pub texts : filter says_something lines ≡ map text_of moves
   pub in_range : All IsInRange moves
@@ -36,16 +36,16 @@ pub record Says (lines : List (List ℕ)) (moves : List Move) : Type 0 where
 abbrev pub IsMoveList : List ℕ → Type 0
 IsMoveList text = (moves : List Move) × Says (lines_of text) moves
 
--- the line is passed over, or the text of a move
+-- The line is skipped, or is the text of a move.
 abbrev pub Reads : List ℕ → Type 0
 Reads line = (says_something line ≡ false) ⊎ ((m : Move) × IsInRange m × (line ≡ text_of m))
 
--- it is to be read, and no move's text
+-- The line is neither skipped nor a move.
 pub record IsNoMove (line : List ℕ) : Type 0 where
   pub is_move : says_something line ≡ true
   pub no_text : (m : Move) → IsInRange m → line ≢ text_of m
 
--- line k, counted from 1, is no move's text, and the lines before it say moves
+-- Line `k`, counted from 1, is neither skipped nor a move, and the lines before it have no fault.
 pub record IsFaulty (lines : List (List ℕ)) (k : ℕ) : Type 0 where
   pub before : List (List ℕ)
   pub line : List ℕ
@@ -60,16 +60,16 @@ abbrev pub told_text : Option Note → List ℕ
 told_text None = codes "not enabled"
 told_text (Some note) = note_text note
 
--- the world after a move, which is passed over where it can't happen
+-- The world after a move, which changes nothing if it cannot happen.
 abbrev pub after_it : World → Move → World
 after_it w m = next can_move after_move w (queue_move m)
 
--- the members of an object that say whether the move was made, and what it tells
+-- The members of an object that state whether the move was made, and its note.
 abbrev pub told_members : Option Note → List ℕ
 told_members None = codes "false"
 told_members (Some note) = codes "true" ++ note_members note
 
--- what is shown of the registers of a move's queue, if there is such a queue
+-- The registers of a move's queue, if they are shown and there is such a queue.
 abbrev pub shown_registers : Shown → World → Move → Option Registers
 shown_registers shown w m = if shown.registers then registers_in w (queue_move m) else None
 
@@ -77,7 +77,7 @@ abbrev pub registers_line : Option Registers → List ℕ
 registers_line None = []
 registers_line (Some r) = registers_text r ++ 10 ∷ []
 
--- the members of an object that say the same
+-- The same as members of an object.
 abbrev pub members_by : Side → ℕ → ℕ → Bool → List ℕ
 members_by side.Receive head tail enable = codes ",\"RDH\":" ++ (decimal head ++ (codes ",\"RDT\":" ++ (decimal tail ++ (codes ",\"RXDCTL.ENABLE\":" ++ decimal (bit enable)))))
 members_by side.Transmit head tail enable = codes ",\"TDH\":" ++ (decimal head ++ (codes ",\"TDT\":" ++ (decimal tail ++ (codes ",\"TXDCTL.ENABLE\":" ++ decimal (bit enable)))))
@@ -89,7 +89,7 @@ abbrev pub register_members : Option Registers → List ℕ
 register_members None = []
 register_members (Some r) = members_of r
 
--- a move's queue and kind and what it tells
+-- A move's queue, kind and note.
 abbrev pub words_line : Move → Option Note → List ℕ
 words_line m told = name_of m ++ (codes " " ++ (told_text told ++ 10 ∷ []))
 
@@ -99,16 +99,16 @@ note_object m told = codes "{\"move\":\"" ++ (name_of m ++ (codes "\",\"made\":"
 abbrev pub object_line : Move → Option Note → Option Registers → List ℕ
 object_line m told read = note_object m told ++ (register_members read ++ codes "}\n")
 
--- what is printed of a move: lines of words, or an object
+-- The output for a move: lines of words, or an object.
 abbrev pub told_line : Bool → Move → Option Note → Option Registers → List ℕ
 told_line false m told read = words_line m told ++ registers_line read
 told_line true m told read = object_line m told read
 
--- the registers are shown as they are after the move
+-- The registers are shown as they are after the move.
 abbrev pub line_in : Shown → World → Move → List ℕ
 line_in shown w m = told_line shown.json m (note_in w (queue_move m)) (shown_registers shown (after_it w m) m)
 
--- the move whose queue is drawn at once, behind its line, and the one whose queue is drawn behind all lines
+-- The move whose queue is drawn directly after its line, and the one whose queue is drawn after all lines.
 abbrev pub drawn_at_once : Pictures → Move → Option Move
 drawn_at_once pictures.Never m = None
 drawn_at_once pictures.Each m = Some m
@@ -123,19 +123,19 @@ abbrev pub drawn_of : QueueParts → Option Move → List ℕ
 drawn_of queues None = []
 drawn_of queues (Some m) = queue_picture queues m
 
--- it is drawn of machines that agree with this world
+-- The picture of queues that agree with this world.
 pub record IsDrawn (w : World) (action : Option Move) (drawn : List ℕ) : Type 0 where
   pub queues : QueueParts
   pub agrees : QueuesAgree queues w
   pub drawn_is : drawn ≡ drawn_of queues action
 
--- these lines tell of the moves: behind the line of each is what is drawn of its queue as it is after the move
+-- The lines of the moves. After each line comes the picture, if any, of its queue after the move.
 abbrev pub Tells : Shown → World → List Move → List ℕ → Type 0
 Tells shown w [] lines = lines ≡ []
 Tells shown w (m ∷ ms) lines = (drawn : List ℕ) × (later : List ℕ) × IsDrawn (after_it w m) (drawn_at_once shown.pictures m) drawn
     × Tells shown (after_it w m) ms later × (lines ≡ line_in shown w m ++ (drawn ++ later))
 
--- the last move, if there is one, of moves behind this one
+-- The last move: `last`, if no moves follow.
 abbrev pub last_from : Option Move → List Move → Option Move
 last_from last [] = last
 last_from last (m ∷ ms) = last_from (Some m) ms
@@ -144,7 +144,8 @@ abbrev pub count_line : Bool → ℕ → ℕ → List ℕ
 count_line false made read = codes "moves " ++ (decimal made ++ (codes " of " ++ (decimal read ++ 10 ∷ [])))
 count_line true made read = codes "{\"made\":" ++ (decimal made ++ (codes ",\"read\":" ++ (decimal read ++ codes "}\n")))
 
--- the page tells of each move, then draws the last one's queue, if that is asked for, and says how many of the moves happened
+-- The page has the lines of each move, a picture of the last one's queue, if selected, and the number of moves that
+-- happened.
 pub record Replayed (shown : Shown) (w : World) (ms : List Move) (page : List ℕ) : Type 0 where
   pub lines : List ℕ
   pub drawn : List ℕ
@@ -152,45 +153,45 @@ pub record Replayed (shown : Shown) (w : World) (ms : List Move) (page : List �
   pub is_drawn : IsDrawn (after_moves w (map queue_move ms)) (drawn_at_last shown.pictures (last_from None ms)) drawn
   pub page_is : page ≡ lines ++ (drawn ++ count_line shown.json (moves_happened w (map queue_move ms)) (length ms))
 
--- the page is what the text's moves print
+-- The page is the output for the text's moves.
 pub record IsPageOf (shown : Shown) (w : World) (text page : List ℕ) : Type 0 where
   pub moves : List Move
   pub says : Says (lines_of text) moves
   pub printed : Replayed shown w moves page
 
--- the queues of the plan, as they are made
+-- The new queues of the plan.
 abbrev pub world_of : QueuePlan → World
 world_of p = opening_world p.pairs p.ring (record { enabled = p.enabled; completion = p.completion })
 
--- the text is a list of moves, and there can be such queues
+-- The text is a list of moves, and such queues can exist.
 pub record IsReplay (plan : QueuePlan) (text : List ℕ) (moves : List Move) : Type 0 where
   pub says : Says (lines_of text) moves
   pub queues : AreQueues plan.pairs plan.ring
 
--- the page is what the moves in these lines print on queues as they are made
+-- The page is the output for the moves in these lines on new queues.
 pub record IsListPage (plan : QueuePlan) (lines : List (List ℕ)) (page : List ℕ) : Type 0 where
   pub moves : List Move
   pub says : Says lines moves
   pub printed : Replayed plan.shown (world_of plan) moves page
 
--- the pages of these lists, joined; each list has fresh queues
+-- The pages of these lists, joined. Each list has fresh queues.
 abbrev pub ArePages : QueuePlan → List (List (List ℕ)) → List ℕ → Type 0
 ArePages plan [] page = page ≡ []
 ArePages plan (list ∷ lists) page =
     (first : List ℕ) × (later : List ℕ) × IsListPage plan list first × ArePages plan lists later × (page ≡ first ++ later)
 
--- the page of a text with these moves: one page, or with `lists` the page of each list in the text
+-- The output for a text with these moves: one page, or with `lists` a page for each list in the text.
 abbrev pub IsPrinted : Bool → QueuePlan → List ℕ → List Move → List ℕ → Type 0
 IsPrinted false plan text moves page = Replayed plan.shown (world_of plan) moves page
 IsPrinted true plan text moves page = ArePages plan (lists_of (lines_of text)) page
 
--- the page is what a text prints on queues of the plan
+-- The page is the output for a text on queues of the plan.
 pub record HasPage (plan : QueuePlan) (text page : List ℕ) : Type 0 where
   pub moves : List Move
   pub replay : IsReplay plan text moves
   pub printed : IsPrinted plan.lists plan text moves page
 
--- all moves were answered
+-- The output for all moves was printed.
 pub record HasReplayed (plan : QueuePlan) (text : List ℕ) (old new : Option (List ℕ)) : Type 0 where
   pub moves : List Move
   pub replay : IsReplay plan text moves
@@ -198,8 +199,7 @@ pub record HasReplayed (plan : QueuePlan) (text : List ℕ) (old new : Option (L
   pub replayed : IsPrinted plan.lists plan text moves page
   pub printed : Appends old new page
 
--- why a text that was read is refused, the first that applies: a faulty line comes before queues that there can't be, and
--- both before want of memory
+-- Why a text is refused, the first that applies: a faulty line, then queues that cannot exist, then a lack of memory.
 abbrev pub ReplayRefused : QueuePlan → List ℕ → Refusal → Type 0
 ReplayRefused plan text (refusal.Move k) = IsFaulty (lines_of text) k
 ReplayRefused plan text (refusal.Machine RingLength) = IsMoveList text × ¬ (AreQueues plan.pairs plan.ring)
@@ -207,28 +207,28 @@ ReplayRefused plan text (refusal.Machine MachineMemory) = (moves : List Move) ×
 ReplayRefused plan text refusal.Memory = (moves : List Move) × IsReplay plan text moves
 ReplayRefused plan text e = ⊥
 
--- memory was refused, to the machine or to the page
+-- Memory was refused to the machine or the page.
 abbrev pub LacksMemory : Refusal → Type 0
 LacksMemory e = (e ≡ refusal.Memory) ⊎ (e ≡ refusal.Machine MachineMemory)
 
--- a text was read, which is the input's where that is known, and the page is what its moves print
+-- A text was read (the input, if it is known), and the page is its output.
 abbrev pub IsReplayed : QueuePlan → Option (List ℕ) → List ℕ → Type 0
 IsReplayed plan input page = (text : List ℕ) × IfSome input (λ known. text ≡ known) × HasPage plan text page
 
--- or nothing was read, or its text was refused
+-- Nothing was read, or the text was refused.
 abbrev pub RefusesReplay : QueuePlan → Option (List ℕ) → Refusal → Type 0
 RefusesReplay plan input e =
     (e ≡ refusal.Input) ⊎ ((e ≡ refusal.Memory) ⊎ ((text : List ℕ) × IfSome input (λ known. text ≡ known) × ReplayRefused plan text e))
 
--- how `replay` of this text ends: its moves are answered, or it is refused. A faulty text, and a plan of queues that
--- there can't be, are always refused, with nothing printed
+-- The end of `replay` for this text: its output is printed, or it is refused. A faulty text, and a plan of queues
+-- that cannot exist, are always refused, with nothing printed.
 pub record EndsReplay (plan : QueuePlan) (text : List ℕ) (status : ℕ) (old new : Option (List ℕ)) : Type 0 where
   pub done : status ≡ DONE → HasReplayed plan text old new
   pub either : (status ≡ DONE) ⊎ (status ≡ REFUSED)
   pub faulty : (k : ℕ) → IsFaulty (lines_of text) k → (status ≡ REFUSED) × Keeps old new
   pub no_queues : ¬ (AreQueues plan.pairs plan.ring) → (status ≡ REFUSED) × Keeps old new
 
--- what is printed of one move was written, and the queues are those of the world after it
+-- The output for one move was written, and the queues agree with the world after it.
 pub record WroteMove (shown : Shown) (w : World) (m : Move) (made : Bool) (old new : List ℕ) (queues : QueueParts) : Type 0 where
   pub drawn : List ℕ
   pub is_drawn : IsDrawn (after_it w m) (drawn_at_once shown.pictures m) drawn

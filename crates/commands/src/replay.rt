@@ -1,4 +1,4 @@
-//! A list of moves, read whole and then answered whole.
+//! Replays a list of moves: reads it whole, then builds the whole output.
 
 ghost use Rattle.std.specs.Prelude.{◌≡◌, ◌↔◌, ◌⊎◌, ◌++◌, ℕ, false, IfErr, IfNone, IfOk, IfSome, IsTrue, OnOk};
 ghost use Rattle.std.specs.String.{string_bytes};
@@ -19,8 +19,7 @@ use std::alloc::{AllocError, Global};
 use std::io::Read;
 use text_lines::{cut, says_something};
 
-/// Behind which moves' lines the queue is drawn that the move names, as it is after the move (`write_picture` of
-/// `pictures`).
+/// After which moves `replay` draws the queue of the move (`write_queue` of `pictures`).
 #[derive(Clone, Copy, PartialEq, Eq)]
 pub enum Pictures {
     Never,
@@ -29,7 +28,7 @@ pub enum Pictures {
 }
 
 impl Pictures {
-    /// The move whose queue is drawn at once, behind its line.
+    /// The move whose queue is drawn directly after its line.
     fn at_once(self, action: Move) -> Option<Move>
         ensures { result ≡ drawn_at_once self action }
     {
@@ -39,7 +38,7 @@ impl Pictures {
         }
     }
 
-    /// The move whose queue is drawn behind all lines.
+    /// The move whose queue is drawn after all lines.
     fn at_last(self, last: Option<Move>) -> Option<Move>
         ensures { result ≡ drawn_at_last self last }
     {
@@ -50,8 +49,8 @@ impl Pictures {
     }
 }
 
-/// What is printed of each move: its note as a line of words or as a JSON object, what the registers of its queue hold
-/// after it, and the queue itself.
+/// The output for each move: its note as a line of words or as a JSON object, and, if selected, the registers and a
+/// picture of its queue after the move.
 #[derive(Clone, Copy)]
 pub struct Shown {
     pub json: bool,
@@ -59,32 +58,33 @@ pub struct Shown {
     pub pictures: Pictures,
 }
 
-/// The note alone, as a line of words.
+/// Notes only, as lines of words.
 pub const NOTES: Shown = Shown {
     json: false,
     registers: false,
     pictures: Pictures::Never,
 };
 
-/// Which queues the moves are made on: how many pairs, of how many descriptors each, whether they begin enabled, and
-/// how the transmit queues report; whether each list in the input has fresh queues; and what is printed of each move.
+/// The queues on which the moves are made, and the output: the number of pairs, the descriptors per ring, whether the
+/// queues begin enabled, how the transmit queues report, whether each list has fresh queues, and the form of the
+/// output.
 #[derive(Clone, Copy)]
 pub struct QueuePlan {
     pub pairs: u32,
     pub ring: u32,
     pub enabled: bool,
     pub completion: Completion,
-    /// Whether a line `# end` ends a list, after which the queues start over and the count is printed. Otherwise such a line
-    /// is a comment.
+    /// Whether a line `# end` ends a list: the count is printed, and the next list has fresh queues. Otherwise such a
+    /// line is a comment.
     pub lists: bool,
     pub shown: Shown,
 }
 
-/// Reads a list of moves to its end, makes them on queues of this plan, and answers one line for each and then how many
-/// were made of how many. With `plan.lists` it does so for each list in the input, on fresh queues.
+/// Reads a list of moves to its end and makes them on new queues of this plan. Returns one line per move, then the
+/// number of moves made and read. With `plan.lists`, does so for each list in the input, on fresh queues.
 ///
-/// It answers the first that applies of `Input` (or `Memory`) where the input can't be read, `Move` where a line is no
-/// move, the machine's ring length where there can be no such queues, and the machine's or its own want of memory.
+/// Returns the first refusal that applies: `Input` (or `Memory`) if the input cannot be read, `Move` if a line is not
+/// a move, the machine's ring length if such queues cannot exist, and a lack of memory, here or in the machine.
 pub fn replay_text<I: Read>(
     alloc: Global,
     plan: QueuePlan,
@@ -97,7 +97,7 @@ pub fn replay_text<I: Read>(
     page_for(alloc, plan, text.as_slice())
 }
 
-/// What a list of moves prints. The whole text is looked at first, so that nothing of a faulty one is made.
+/// The output for a text. The text is checked first, so that no move of a faulty one is made.
 fn page_for(alloc: Global, plan: QueuePlan, text: &[u8]) -> Result<String, Refusal>
     ensures done { IfOk result (λ page. HasPage plan text.now (string_bytes page)) }
     ensures refused { IfErr result (λ e. ReplayRefused plan text.now e) }
@@ -112,7 +112,7 @@ fn page_for(alloc: Global, plan: QueuePlan, text: &[u8]) -> Result<String, Refus
     Ok(page_of(alloc, plan.shown, &mut queues, text)?)
 }
 
-/// New queues of this plan.
+/// Creates the queues of this plan.
 fn queues_of(alloc: Global, plan: QueuePlan) -> Result<Queues, MachineError>
     ensures refused { (result ≡ Err RingLength) ↔ ¬ (AreQueues plan.pairs plan.ring) }
     ensures error { IfErr result (λ e. (e ≡ RingLength) ⊎ (e ≡ MachineMemory)) }
@@ -122,7 +122,7 @@ fn queues_of(alloc: Global, plan: QueuePlan) -> Result<Queues, MachineError>
     Queues::new_with(alloc, pairs, ring, plan.enabled, plan.completion)
 }
 
-/// What each list of a text prints, joined.
+/// The output for all lists of a text, joined.
 fn pages_of(alloc: Global, plan: QueuePlan, text: &[u8]) -> Result<String, Refusal>
     requires moves { IsMoveList text.now }
     requires queues { AreQueues plan.pairs plan.ring }
@@ -142,7 +142,7 @@ fn pages_of(alloc: Global, plan: QueuePlan, text: &[u8]) -> Result<String, Refus
     Ok(pages)
 }
 
-/// What a list prints on new queues.
+/// The output for a list on new queues.
 fn list_page(alloc: Global, plan: QueuePlan, list: &[u8]) -> Result<String, Refusal>
     requires moves { IsMoveList list.now }
     requires queues { AreQueues plan.pairs plan.ring }
@@ -153,7 +153,7 @@ fn list_page(alloc: Global, plan: QueuePlan, list: &[u8]) -> Result<String, Refu
     Ok(page_of(alloc, plan.shown, &mut queues, list)?)
 }
 
-/// Whether a line is a move's text, or passed over.
+/// Whether a line is a move or is skipped.
 fn is_good(line: &[u8]) -> bool
     ensures read { IsTrue result → Reads line.now }
     ensures faulty { result ≡ false → IsNoMove line.now }
@@ -161,7 +161,7 @@ fn is_good(line: &[u8]) -> bool
     !says_something(line) || Move::parse(line).is_ok()
 }
 
-/// The number of the first line that is to be read and is no move, if there is one.
+/// The number of the first line that is neither a move nor skipped.
 fn faulty_line(text: &[u8]) -> Option<u64>
     ensures none { IfNone result (IsMoveList text.now) }
     ensures first { IfSome result (λ k. IsFaulty (lines_of text.now) k) }
@@ -179,7 +179,7 @@ fn faulty_line(text: &[u8]) -> Option<u64>
     None
 }
 
-/// Makes the moves of a text, and writes a line for each and one of how many were made.
+/// Makes the moves of a text. Returns a line for each, and a line with the count.
 fn page_of(
     alloc: Global,
     shown: Shown,
@@ -212,7 +212,7 @@ fn page_of(
     Ok(page)
 }
 
-/// What is shown of the registers of a move's queue.
+/// The registers of a move's queue, if they are shown.
 fn shown_registers(shown: Shown, queues: &Queues, action: &Move) -> Option<Registers>
     ensures { (w : World) → QueuesAgree queues.now w → result ≡ shown_registers shown w action.now }
 {
@@ -223,7 +223,7 @@ fn shown_registers(shown: Shown, queues: &Queues, action: &Move) -> Option<Regis
     }
 }
 
-/// Draws the queue of a move, if there is one to be drawn.
+/// Draws the queue of a move, if there is one.
 fn draw(page: &mut String, queues: &Queues, action: Option<Move>) -> Result<(), AllocError>
     ensures { OnOk result (string_bytes page.new ≡ string_bytes page.old ++ drawn_of queues.now action) }
 {
@@ -233,8 +233,8 @@ fn draw(page: &mut String, queues: &Queues, action: Option<Move>) -> Result<(), 
     }
 }
 
-/// Makes a move, and writes its line with what is shown of the registers after it, and of the queue. It answers whether
-/// the move was made.
+/// Makes a move. Writes its line, with the registers and the picture that are shown after it. Returns whether the
+/// move was made.
 fn write_move(
     page: &mut String,
     shown: Shown,

@@ -1,4 +1,4 @@
-//! What is printed of a move, and of how many were made.
+//! The output for a move, and the count of moves.
 
 ghost use Rattle.std.specs.Prelude.{◌≡◌, ◌++◌, OnOk};
 ghost use Rattle.std.specs.String.{string_bytes};
@@ -9,7 +9,8 @@ use ring_machine::{Move, Registers, Side};
 use ring_model::Note;
 use std::alloc::AllocError;
 
-/// Writes what a move told, if it was made, and what is shown of the registers of its queue: lines of words, or an object.
+/// Writes the note of a move, if it was made, and the registers of its queue, if shown: as lines of words or an
+/// object.
 pub(crate) fn write_told(
     page: &mut String,
     json: bool,
@@ -27,7 +28,7 @@ pub(crate) fn write_told(
     }
 }
 
-/// Writes what a move told as a line of words.
+/// Writes the note of a move as a line of words.
 fn write_words(page: &mut String, action: &Move, told: Option<Note>) -> Result<(), AllocError>
     ensures { OnOk result (string_bytes page.new ≡ string_bytes page.old ++ words_line action.now told) }
 {
@@ -38,7 +39,7 @@ fn write_words(page: &mut String, action: &Move, told: Option<Note>) -> Result<(
     }
 }
 
-/// Writes what registers hold, if they are shown, as a line of words.
+/// Writes the registers, if shown, as a line of words.
 fn write_registers(page: &mut String, read: Option<Registers>) -> Result<(), AllocError>
     ensures { OnOk result (string_bytes page.new ≡ string_bytes page.old ++ registers_line read) }
 {
@@ -48,7 +49,7 @@ fn write_registers(page: &mut String, read: Option<Registers>) -> Result<(), All
     }
 }
 
-/// Writes what registers hold as members of an object, with a comma before each.
+/// Writes the registers as members of an object, each after a comma.
 fn write_members(page: &mut String, registers: Registers) -> Result<(), AllocError>
     ensures { OnOk result (string_bytes page.new ≡ string_bytes page.old ++ members_of registers) }
 {
@@ -71,7 +72,7 @@ fn write_members(page: &mut String, registers: Registers) -> Result<(), AllocErr
     }
 }
 
-/// Writes what a move told as the first members of an object.
+/// Writes the note of a move as the first members of an object.
 fn write_note(page: &mut String, action: &Move, told: Option<Note>) -> Result<(), AllocError>
     ensures { OnOk result (string_bytes page.new ≡ string_bytes page.old ++ note_object action.now told) }
 {
@@ -85,7 +86,7 @@ fn write_note(page: &mut String, action: &Move, told: Option<Note>) -> Result<()
     }
 }
 
-/// Writes what a move told, and what registers hold, if they are shown, as an object.
+/// Writes the note of a move, and the registers, if shown, as an object.
 fn write_object(
     page: &mut String,
     action: &Move,
@@ -101,7 +102,7 @@ fn write_object(
     page.push_str("}\n")
 }
 
-/// Writes how many moves were made of how many that were read.
+/// Writes how many moves were made and how many were read.
 pub(crate) fn write_count(
     page: &mut String,
     json: bool,

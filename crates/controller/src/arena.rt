@@ -14,7 +14,7 @@ const LEAST_GROWTH: usize = MOST_FRAME + MOST_FRAME / 2;
 /// The least number of entries by which the list of ends grows.
 const LEAST_ENTRIES: usize = 16;
 
-/// Frames one behind another, and the bytes of a frame that is begun.
+/// Frames one after another, and the bytes of an unfinished frame.
 #[derive(Drop)]
 pub(crate) struct Arena {
     bytes: Vec<u8>,

@@ -1,4 +1,4 @@
-//! What a request does to the streams, and the status that it ends with.
+//! Serving a request.
 ghost use Rattle.std.specs.Prelude.{◌≡◌, IfErr, OnOk, All};
 ghost use Rattle.std.specs.Io.KnownBytes.{Keeps};
 ghost use Rattle.commands.specs.declared.answering.TheConstants.{DONE};
@@ -13,8 +13,8 @@ use coverage::{CoverList, Scope, Side};
 use std::alloc::Global;
 use std::io::Write;
 
-/// Does what is asked for, and answers an exit status. The lists go to `output`, with status 0. How far it is goes to
-/// `shown`, a line after each 1,000 states. A refusal goes to `faults` as one line, with status 1, as the other commands' do.
+/// Serves the request and returns an exit status. Prints the lists to `output`, with status 0. Prints the progress to
+/// `shown`, a line per 1,000 states, and a refusal to `faults` as one line, with status 1.
 pub fn answer<W: Write, E: Write, M: Write>(
     alloc: Global,
     request: &CoverRequest,
@@ -31,11 +31,10 @@ pub fn answer<W: Write, E: Write, M: Write>(
     }
 }
 
-/// Goes over the states of a receive queue and then of a transmit queue, and prints the lists of each as soon as all its
-/// states are gone over. How far it is goes to `shown`, a line after each 1,000 states.
+/// Searches the states of a receive queue and then of a transmit queue. Prints the lists of each as soon as its
+/// search is complete, and the progress to `shown`, a line per 1,000 states.
 ///
-/// It answers `Memory` where memory was refused, and `Output` where a list could not be printed. Lists before that one were
-/// printed.
+/// Returns `Memory` if memory is refused, and `Output` if a list cannot be printed. The lists before it stay printed.
 pub fn perform<W: Write, M: Write>(
     alloc: Global,
     request: &CoverRequest,
@@ -57,7 +56,7 @@ pub fn perform<W: Write, M: Write>(
     cover(alloc, transmit, request.expect, output, shown)
 }
 
-// Prints the lists of a queue.
+// Prints the lists of one queue.
 fn cover<W: Write, M: Write>(
     alloc: Global,
     scope: Scope,
@@ -73,7 +72,7 @@ fn cover<W: Write, M: Write>(
     print_lists(alloc, scope, expect, lists.as_slice(), output)
 }
 
-// Prints these lists, one behind another.
+// Prints these lists, one after another.
 fn print_lists<W: Write>(
     alloc: Global,
     scope: Scope,

@@ -1,9 +1,11 @@
-//! The command `schedules --cover` of the program `poll82599`: lists of moves that together meet whatever a queue of 8 can be
-//! met in, for whoever tests a driver or an emulator of the controller, and what must come out.
+//! The command `schedules --cover`: lists of moves that meet every reachable pair of a queue of 8, for testing a
+//! driver or an emulator of the controller, and their expected outcomes.
+//! Depends on `coverage`, `schedule_command`, `commands`, `ring_machine` and `ring_model`.
+//! Each printed list meets the pair that its comment names.
 //!
-//! [`perform`] goes over the states of a receive queue and then of a transmit queue (crate `coverage`), and prints the lists
-//! that a [`CoverRequest`] asks for; [`answer`] does the same for a caller who wants an exit status. It stands beside the
-//! crate `commands`, whose refusals it answers, and whose `replay` says what comes out of a list.
+//! [`perform`] searches the states of a receive queue and then of a transmit queue, and prints the lists for a
+//! [`CoverRequest`]. [`answer`] also prints refusals and returns an exit status. Refusals are those of `commands`,
+//! whose `replay` computes the expected outcome.
 #![tactic(auto)]
 
 mod answering;

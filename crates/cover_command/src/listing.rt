@@ -8,7 +8,7 @@ use coverage::{CoverList, Scope};
 use ring_machine::Move;
 use std::alloc::{AllocError, Global};
 
-// The queues that a list begins with.
+// The queues with which a list begins.
 fn queues_of(scope: Scope, shown: Shown) -> QueuePlan
     ensures { result ≡ queues_of scope shown }
 {
@@ -22,7 +22,7 @@ fn queues_of(scope: Scope, shown: Shown) -> QueuePlan
     }
 }
 
-// Writes moves, one a line.
+// Writes moves, one per line.
 fn write_moves(text: &mut String, moves: &[Move]) -> Result<(), AllocError>
     ensures { OnOk result (string_bytes text.new ≡ string_bytes text.old ++ move_lines moves.now) }
 {
@@ -32,7 +32,7 @@ fn write_moves(text: &mut String, moves: &[Move]) -> Result<(), AllocError>
     Ok(())
 }
 
-// A list's pair as a comment, its moves, and a line that ends it.
+// A list's pair as a comment, its moves, and the line that ends it.
 fn text_of(alloc: Global, list: &CoverList) -> Result<String, AllocError>
     ensures { IfOk result (λ text. string_bytes text ≡ list_text list.now) }
 {
@@ -43,7 +43,7 @@ fn text_of(alloc: Global, list: &CoverList) -> Result<String, AllocError>
     Ok(text)
 }
 
-/// A list as it is printed.
+/// The printed text of a list.
 pub(crate) fn list_of(
     alloc: Global,
     scope: Scope,

@@ -1,4 +1,4 @@
-//! What is asked for.
+//! The request.
 
 use commands::Shown;
 use ring_machine::Completion;
@@ -8,9 +8,9 @@ use ring_machine::Completion;
 pub struct CoverRequest {
     /// How the transmit queue reports.
     pub completion: Completion,
-    /// The form in which each list is followed by what `replay` prints of it; `None` where nothing follows.
+    /// The form in which `replay` prints the outcome after each list; `None` for nothing.
     pub expect: Option<Shown>,
-    /// Whether queues begin enabled, and only moves are made that a controller of silicon and its driver make too; else
-    /// queues begin never enabled, and all moves are made.
+    /// If set, queues begin enabled, and only moves are made that silicon and its driver make too. Otherwise queues
+    /// begin never enabled, and all moves are made.
     pub device_only: bool,
 }

@@ -1,14 +1,14 @@
-//! A search that is gone on with until it is whole, and how far it is meanwhile.
+//! A complete search, with its progress.
 ghost use Rattle.std.specs.Prelude.{◌≡◌, IfOk};
 
 use coverage::{Scope, Search, Side};
 use std::alloc::{AllocError, Global};
 use std::io::Write;
 
-/// After how many states it is told how far a search is.
+/// The number of states per progress line.
 const STATES_A_LINE: usize = 1000;
 
-// Tells how far a search is, on a line of its own. A stream that fails changes nothing.
+// Prints the progress of a search as one line. Ignores a failing stream.
 fn tell<E: Write>(search: &Search, side: Side, shown: &mut E) {
     let queue = match side {
         Side::Receive => "r0",
@@ -24,7 +24,7 @@ fn tell<E: Write>(search: &Search, side: Side, shown: &mut E) {
     );
 }
 
-/// A whole search: no state that it reached was not gone over. How far it is goes to `shown`.
+/// Searches all reachable states. Prints the progress to `shown`.
 pub(crate) fn search_of<E: Write>(
     alloc: Global,
     scope: Scope,

@@ -16,7 +16,7 @@ pub enum Side {
 }
 
 impl Side {
-    /// How the transmit queue reports that is searched, or is beside the searched one.
+    /// How the transmit queue of the pair reports, whether or not it is the searched queue.
     pub fn completion(self) -> Completion
         ensures { result ≡ completion_of self }
     {

@@ -1,5 +1,5 @@
-//! Tests of the crates below the rings: buffers, pools, descriptors, counters, scripts of frames and captures. They stand
-//! above them, so that each of those is proved without tests.
+//! Tests of the crates below the rings: buffers, pools, descriptors, counters, wire scripts and captures. The tests
+//! are in a crate above them, so that the crates themselves are proved without tests.
 #![tactic(auto)]
 
 #[cfg(test)]

@@ -29,9 +29,9 @@ pub struct Poll82599Moved {
     pub line: u64,
 }
 
-/// Makes the moves of a text, one a line, on new queues, and writes their output, a line or an object each, to the
+/// Makes the moves of a text, one per line, on new queues, and writes their output, a line or an object each, to the
 /// beginning of `page`. Any thread may call it. Returns 0: done; 1: `page` has fewer bytes than `needed`, which is set
-/// with 0 and 1; or the number of a refusal: 14: the line `line` is no move; 12: there can be no such queues; others:
+/// with 0 and 1; or the number of a refusal: 14: the line `line` is no move; 12: such queues cannot exist; others:
 /// memory was refused. Only 0 changes the page.
 #[unsafe(no_mangle)]
 pub extern "C" fn poll82599_moves(

@@ -327,14 +327,14 @@ impl ScriptError {
 /// The first fault of a capture, with the number of its record, counted from 1; or the lack of memory.
 #[derive(Clone, Copy, Debug, PartialEq, Eq, Error)]
 pub enum CaptureError {
-    /// The file does not begin with a header of classic pcap, version 2.4, or of pcapng, version 1; or a pcapng block is
-    /// damaged.
+    /// The file does not begin with a header of classic pcap, version 2.4, or of pcapng, version 1; or a pcapng block
+    /// is damaged.
     #[error("not a capture in pcap or pcapng")]
     NotCapture,
     /// The link type is not 1 (Ethernet, with no statement about checksums).
     #[error("link type")]
     LinkType,
-    /// The capture ends within this record.
+    /// The capture ends within this record, or a pcapng block is too short for its packet.
     #[error("cut short")]
     CutShort { number: u64 },
     /// Fewer bytes of the frame were captured than it had on the wire.

@@ -1,4 +1,4 @@
--- What `schedules` prints.
+-- The output of `schedules`.
 use Rattle.std.specs.Prelude.{◌≡◌, ◌⊎◌, ◌≤◌, ⊤, ℕ, false, List, [], ◌∷◌, ◌++◌, codes, length, Option, None, Some, All}
 use Rattle.std.specs.List.{flat_map}
 use Rattle.std.specs.Io.KnownBytes.{Appends, Keeps}
@@ -15,24 +15,24 @@ use Rattle.schedules.specs.Drawing.{IsDrawn}
 use Rattle.schedules.specs.declared.drawing.Drawn.{Drawn}
 use Rattle.schedule_command.specs.declared.request.ScheduleRequest.{ScheduleRequest}
 
--- the queues that the lists are drawn for, as `replay` makes them, and the form of what it prints
+-- The queues that the lists are drawn for, as `replay` makes them, and the form of its output.
 abbrev pub queues_of : ScheduleRequest → Shown → QueuePlan
 queues_of r form = record { pairs = r.plan.pairs; ring = r.plan.ring; enabled = r.plan.enabled; completion = r.plan.completion; lists = false; shown = form }
 
--- each move on a line of its own
+-- Each move on its own line.
 abbrev pub move_lines : List Drawn → List ℕ
 move_lines l = flat_map (λ d. text_of d.action ++ 10 ∷ []) l
 
--- and a line that ends the list
+-- The same with the line that ends the list.
 abbrev pub list_text : List Drawn → List ℕ
 list_text l = move_lines l ++ codes "# end\n"
 
--- what follows a list is what `replay` prints of it in this form, or nothing
+-- The text after a list: the output of `replay` for it in this form, or nothing.
 abbrev pub Follows : Option Shown → (Shown → QueuePlan) → List ℕ → List ℕ → Type 0
 Follows (Some form) queues list more = HasPage (queues form) list more
 Follows None queues list more = more ≡ []
 
--- a list that was drawn as is asked for, and what follows it
+-- A list drawn as requested, with the text after it.
 pub record IsPrinted (r : ScheduleRequest) (text : List ℕ) : Type 0 where
   pub list : List Drawn
   pub drawn : IsDrawn r.plan list
@@ -40,34 +40,34 @@ pub record IsPrinted (r : ScheduleRequest) (text : List ℕ) : Type 0 where
   pub follows : Follows r.expect (queues_of r) (list_text list) more
   pub text_is : text ≡ list_text list ++ more
 
--- why a list was not drawn: there can be no such queues, or memory was refused
+-- Why a list was not drawn: such queues cannot exist, or memory was refused.
 abbrev pub NotDrawn : ScheduleRequest → Refusal → Type 0
 NotDrawn r (refusal.Machine RingLength) = ¬ (AreQueues r.plan.pairs r.plan.ring)
 NotDrawn r (refusal.Machine NoQueues) = ⊤
 NotDrawn r refusal.Memory = ⊤
 NotDrawn r e = ⊥
 
--- why it was not printed: it was not drawn, or `replay` refuses its text
+-- Why it was not printed: it was not drawn, or `replay` refuses its text.
 abbrev pub NotPrinted : ScheduleRequest → Refusal → Type 0
 NotPrinted r e = NotDrawn r e ⊎ ((form : Shown) × (l : List Drawn) × IsDrawn r.plan l × RefusesReplay (queues_of r form) (Some (list_text l)) e)
 
--- the texts, one behind another
+-- The texts, one after another.
 abbrev pub joined : List (List ℕ) → List ℕ
 joined texts = flat_map (λ t. t) texts
 
--- as many lists as are asked for were printed, and nothing else
+-- The requested number of lists is printed, and nothing else.
 pub record Prints (r : ScheduleRequest) (old new : Option (List ℕ)) : Type 0 where
   pub texts : List (List ℕ)
   pub count : length texts ≡ r.count
   pub each : All (IsPrinted r) texts
   pub appends : Appends old new (joined texts)
 
--- fewer were: for want of memory, or because the output failed
+-- Fewer lists are printed, since one cannot be made or the output fails.
 abbrev pub Refuses : ScheduleRequest → Refusal → Type 0
 Refuses r e = NotPrinted r e ⊎ (e ≡ refusal.Output)
 
--- how `schedules` ends: its lists were printed, or it is refused. A plan of queues that there can't be is always refused, with
--- nothing printed, if there is a list to draw
+-- The end of `schedules`: its lists are printed, or it is refused. If the queues cannot exist and there is a list to
+-- draw, it is refused with nothing printed.
 pub record EndsSchedules (r : ScheduleRequest) (status : ℕ) (old new : Option (List ℕ)) : Type 0 where
   pub done : status ≡ DONE → Prints r old new
   pub either : (status ≡ DONE) ⊎ (status ≡ REFUSED)

@@ -1,4 +1,4 @@
-//! What a request does to the output, and the status that it ends with.
+//! Serving a request.
 ghost use Rattle.std.specs.Prelude.{◌≡◌, ◌≤◌, ◌⊎◌, IfErr, IsErr, OnOk};
 ghost use Rattle.std.specs.Io.KnownBytes.{Keeps};
 ghost use Rattle.commands.specs.declared.answering.TheConstants.{DONE, REFUSED};
@@ -11,8 +11,8 @@ use commands::{DONE, Refusal, print, refuse};
 use std::alloc::Global;
 use std::io::Write;
 
-/// Does what is asked for, and answers an exit status. The lists go to `output`, with status 0. A refusal goes to `faults`
-/// as one line, with status 1, as the other commands' do: queues that there can't be with nothing printed.
+/// Serves the request and returns an exit status. Prints the lists to `output`, with status 0. Prints a refusal to
+/// `faults` as one line, with status 1. If the queues cannot exist, `output` is unchanged.
 pub fn answer<W: Write, E: Write>(
     alloc: Global,
     request: &ScheduleRequest,
@@ -31,10 +31,10 @@ pub fn answer<W: Write, E: Write>(
     }
 }
 
-/// Draws the lists that are asked for, and prints each when it is drawn.
+/// Draws the requested lists, and prints each as soon as it is drawn.
 ///
-/// It answers the machine's ring length where there can be no such queues, before anything is printed; the machine's or its
-/// own want of memory; and `Output` where a list could not be printed. Lists before that one were printed.
+/// Returns the machine's ring length refusal if the queues cannot exist, before it prints anything; a lack of memory,
+/// here or in the machine; and `Output` if a list cannot be printed. The lists before it stay printed.
 pub fn perform<W: Write>(
     alloc: Global,
     request: &ScheduleRequest,

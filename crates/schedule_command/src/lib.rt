@@ -1,9 +1,11 @@
-//! The command `schedules` of the program `poll82599`: lists of moves for whoever tests a driver or an emulator of the
-//! controller, and what must come out.
+//! The command `schedules`: drawn lists of moves for testing a driver or an emulator of the controller, and their
+//! expected outcomes.
+//! Depends on `schedules`, `commands`, `ring_machine` and `ring_model`.
+//! A successful request prints exactly the requested lists. If the queues cannot exist, nothing is printed.
 //!
-//! [`perform`] draws the lists that a [`ScheduleRequest`] asks for (crate `schedules`) and prints each when it is drawn;
-//! [`answer`] does the same for a caller who wants an exit status. It stands beside the crate `commands`, whose refusals it
-//! answers, and whose `replay` says what comes out of a list.
+//! [`perform`] draws the lists of a [`ScheduleRequest`] and prints each as soon as it is drawn. [`answer`] also
+//! prints refusals and returns an exit status. Refusals are those of `commands`, whose `replay` computes the expected
+//! outcome.
 #![tactic(auto)]
 
 mod answering;

@@ -9,7 +9,7 @@ use commands::{QueuePlan, Refusal, Shown, replay_text};
 use schedules::{Drawn, draw};
 use std::alloc::{AllocError, Global};
 
-// The queues that the moves are replayed on.
+// The queues on which the moves are replayed.
 fn queues_of(request: &ScheduleRequest, shown: Shown) -> QueuePlan
     ensures { result ≡ queues_of request.now shown }
 {
@@ -23,7 +23,7 @@ fn queues_of(request: &ScheduleRequest, shown: Shown) -> QueuePlan
     }
 }
 
-// The moves of a list, one a line, and a line that ends it.
+// The moves of a list, one per line, and the line that ends it.
 fn text_of(alloc: Global, drawn: &[Drawn]) -> Result<String, AllocError>
     ensures { IfOk result (λ text. string_bytes text ≡ list_text drawn.now) }
 {
@@ -35,7 +35,7 @@ fn text_of(alloc: Global, drawn: &[Drawn]) -> Result<String, AllocError>
     Ok(text)
 }
 
-/// The list of this number as it is printed.
+/// The printed text of list `number`.
 pub(crate) fn list_of(
     alloc: Global,
     request: &ScheduleRequest,

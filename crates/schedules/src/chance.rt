@@ -4,21 +4,21 @@ ghost use Rattle.std.specs.Prelude.{◌<◌};
 use rand::RngExt;
 use rand_pcg::Pcg64;
 
-/// A source of numbers that a seed and a list's number decide.
+/// A source of random numbers, determined by a seed and a list's number.
 #[derive(Drop)]
 pub(crate) struct Chance {
     rng: Pcg64,
 }
 
 impl Chance {
-    /// The source of this seed for this list.
+    /// The source for this list of this seed.
     pub fn new(seed: u64, list: u64) -> Chance {
         Chance {
             rng: Pcg64::new(u128::from(seed), u128::from(list)),
         }
     }
 
-    /// A number below `n`.
+    /// A random number below `n`.
     pub fn below(&mut self, n: u32) -> u32
         requires { 0 < n }
         ensures { result < n }
@@ -26,14 +26,14 @@ impl Chance {
         self.rng.random_range(0..n)
     }
 
-    /// Whether a number below `n` is 0.
+    /// True with a probability of 1 in `n`.
     pub fn one_in(&mut self, n: u32) -> bool
         requires { 0 < n }
     {
         self.below(n) == 0
     }
 
-    /// A place of these weights, each as likely as its weight says; 0 where all are 0.
+    /// A random index, with these weights; 0 if all of them are 0.
     pub fn place(&mut self, weights: &[u32]) -> usize {
         let mut sum: u32 = 0;
         for weight in weights {

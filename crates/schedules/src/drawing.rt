@@ -1,4 +1,4 @@
-//! A list of moves, drawn move by move on queues that make each of them.
+//! A list of moves, drawn one by one and made on the machine's queues.
 ghost use Rattle.std.specs.Prelude.{◌≡◌, ◌≤◌, ◌+◌, ◌*◌, ◌↔◌, ◌⊎◌, false, true, IfErr, IfOk};
 ghost use Rattle.ring_machine.specs.Queues.{AreQueues};
 ghost use Rattle.refusals.specs.declared.errors.MachineError.TheVariants.{Memory, RingLength};
@@ -12,17 +12,17 @@ use ring_machine::{
 };
 use std::alloc::Global;
 
-/// A move of a list, and whether it happens when its turn comes.
+/// A move of a list, and whether it happens at its place.
 #[derive(Clone, Copy)]
 pub struct Drawn {
     pub action: Move,
     pub happens: bool,
 }
 
-/// How many moves are drawn for one that happens, before one is taken that always does.
+/// The number of draws for a move that happens, before falling back to one that always does.
 const MOST_TRIES: usize = 256;
 
-// Makes a move, and says whether it happened.
+// Makes a move, and records whether it happened.
 fn make(queues: &mut Queues, proposer: &mut Proposer, action: Move) -> Drawn
     ensures draws { Draws queues.old result queues.new }
     ensures action { result.action ≡ action }
@@ -61,7 +61,7 @@ fn draw_happening(queues: &mut Queues, proposer: &mut Proposer) -> Drawn
     make_look(queues, proposer)
 }
 
-// Draws the next move: one that happens, or where it may be refused any.
+// Draws the next move: one that happens, or any move if it may be refused.
 fn draw_next(queues: &mut Queues, proposer: &mut Proposer, may_be_refused: bool) -> Drawn
     ensures draws { Draws queues.old result queues.new }
     ensures happens { may_be_refused ≡ false → Surely queues.old result }
@@ -74,7 +74,7 @@ fn draw_next(queues: &mut Queues, proposer: &mut Proposer, may_be_refused: bool)
     draw_happening(queues, proposer)
 }
 
-// Whether one move more may be refused, of so many that are drawn, of which so many were.
+// Whether one more move may be refused, after `drawn` moves of which `refused` were refused.
 fn is_owed(plan: &SchedulePlan, drawn: u32, refused: u64) -> bool
     requires { refused ≤ drawn }
     ensures { result ≡ true → 100 * (refused + 1) ≤ plan.now.refused * (drawn + 1) }
@@ -82,8 +82,8 @@ fn is_owed(plan: &SchedulePlan, drawn: u32, refused: u64) -> bool
     100 * (refused + 1) <= u64::from(plan.refused).saturating_mul(u64::from(drawn) + 1)
 }
 
-/// Draws the list of this number and seed. It answers `RingLength` where there can be no such queues, and `Memory` only
-/// where memory was refused.
+/// Draws list `list` of this seed. Returns `RingLength` if such queues cannot exist, and `Memory` only if memory is
+/// refused.
 pub fn draw(
     alloc: Global,
     plan: &SchedulePlan,

@@ -1,18 +1,18 @@
-//! A queue as it is drawn for: what it is brought to, and how far its frame is.
+//! The state of drawing for one queue: its mood, and the progress of its frame.
 
 use crate::chance::Chance;
 use crate::weights::Mood;
 use limits::{BUFFER_BYTES, LEAST_FRAME, MOST_FRAME};
 use ring_machine::{Move, RxStep, SegmentDescriptor, SegmentLength, TxStep};
 
-/// The most segments that a frame is drawn with: as many as a ring of 8 has room for.
+/// The maximum number of segments of a drawn frame: the room of a ring of 8.
 const MOST_SEGMENTS: u32 = 7;
 
-/// How many moves of a queue are drawn in one mood, in the mean.
+/// The mean number of a queue's moves per mood.
 const MOOD_MOVES: u32 = 200;
 
-/// A queue's mood, and its frame: how long it is, how much of it is to come in how many segments at most, and what each
-/// buffer holds. A frame before which no report was asked for is one segment that asks for one, so that a ring of 8 drains.
+/// A queue's mood and frame: its length, the bytes left, the most segments for them, and the fill of each buffer.
+/// After a frame without RS, the next one is a single segment with RS, so that a ring of 8 drains.
 #[derive(Clone, Copy)]
 pub(crate) struct Lane {
     mood: Mood,
@@ -23,7 +23,7 @@ pub(crate) struct Lane {
     unreported: bool,
 }
 
-// The length of a frame: most are of one segment.
+// A random frame length. Most frames are a single segment.
 fn frame_bytes(chance: &mut Chance, most: u32) -> u32 {
     let range = match chance.below(4) {
         0 => 51,
@@ -54,7 +54,8 @@ impl Lane {
         lane
     }
 
-    /// The mood of the queue's next move: its own, which changes now and then, or with `any` that of all kinds alike.
+    /// The mood of the queue's next move: its own, which changes now and then, or with `any` the one that weighs all
+    /// kinds alike.
     pub fn turn(&mut self, chance: &mut Chance, any: bool) -> Mood {
         if chance.one_in(MOOD_MOVES) {
             self.mood = Mood::of(chance.below(4));
@@ -62,14 +63,14 @@ impl Lane {
         if any { Mood::Any } else { self.mood }
     }
 
-    // The next frame begins.
+    // Begins the next frame.
     fn begin(&mut self, chance: &mut Chance) {
         self.segments = if self.unreported { 1 } else { MOST_SEGMENTS };
         self.bytes = frame_bytes(chance, self.segments.saturating_mul(self.fill));
         self.left = self.bytes;
     }
 
-    // So much of the frame is done.
+    // Advances the frame by `len` bytes.
     fn go_on(&mut self, chance: &mut Chance, len: u32, eop: bool) {
         if eop {
             self.begin(chance);
@@ -79,14 +80,15 @@ impl Lane {
         }
     }
 
-    /// The segment that a controller stores next: a buffer's fill, or what is left of the frame.
+    /// The segment that the controller stores next: a full buffer, or the rest of the frame.
     pub fn segment(&self) -> Option<(SegmentLength, bool)> {
         let len = self.left.min(self.fill);
         let len = u16::try_from(len).ok()?;
         Some((SegmentLength::new(len)?, self.left <= self.fill))
     }
 
-    // How much of a frame is posted next: any part of it, where what is left has room in the segments that are left.
+    // The length of the next posted segment: any part of the frame, as long as the remaining segments have room for
+    // the rest.
     fn posted_bytes(&self, chance: &mut Chance) -> u32 {
         let most = self.left.min(self.fill);
         let room = self.segments.saturating_sub(1).saturating_mul(self.fill);
@@ -97,7 +99,7 @@ impl Lane {
         }
     }
 
-    /// The segment that a driver posts next, with this buffer.
+    /// The segment that the driver posts next, in this buffer.
     pub fn posting(&self, chance: &mut Chance, buffer: u16) -> Option<SegmentDescriptor> {
         let len = self.posted_bytes(chance);
         let eop = len == self.left;
@@ -112,7 +114,7 @@ impl Lane {
         )
     }
 
-    /// A move of the queue was made.
+    /// Records a move of the queue.
     pub fn made(&mut self, chance: &mut Chance, action: &Move) {
         match action {
             Move::Receive(_, RxStep::Store(len, eop)) => {

@@ -1,9 +1,12 @@
-//! Lists of moves for queues, drawn from a seed: cases for whoever writes a driver or an emulator of the controller.
+//! Lists of moves for queues, drawn from a seed: cases for testing a driver or an emulator of the controller.
+//! Depends on `ring_machine`, `ring_model`, `ring_laws`, `limits`, `refusals`, `rand`, `rand_core` and `rand_pcg`.
+//! Each list has the requested number of moves, states of each whether it happens, and keeps to the allowed
+//! percentage of moves that do not.
 //!
-//! [`draw`] draws a list of moves for queues as a [`SchedulePlan`] wants them. Each move is drawn by weights that change on
-//! the way, so that rings fill, wrap, drain, are disabled in the middle of frames and renewed; and each is
-//! made at once on pure queues, so that a list says of each move whether it happens. One seed gives one list, on every
-//! machine: numbers come from PCG XSL RR 128/64 of `rand_pcg`.
+//! [`draw`] draws a list for a [`SchedulePlan`]. The weights of the moves change along the list, so that rings fill,
+//! wrap, drain, and are disabled in the middle of frames and renewed. Each move is made at once on queues of the
+//! machine, which decide whether it happens. One seed yields the same list on every machine: numbers come from PCG
+//! XSL RR 128/64 of `rand_pcg`.
 #![tactic(auto)]
 
 mod chance;

@@ -1,4 +1,4 @@
-//! Moves that might come next, drawn by weight.
+//! Candidates for the next move, drawn by weight.
 
 use crate::chance::Chance;
 use crate::lane::Lane;
@@ -9,7 +9,7 @@ use ring_machine::{
     ControlStep, Move, QueueNumber, RxStep, SegmentDescriptor, SegmentLength, TxStep,
 };
 
-/// What draws moves for queues: its numbers, and how far each queue is.
+/// The state of drawing: the random numbers, and the state of each queue.
 #[derive(Drop)]
 pub(crate) struct Proposer {
     chance: Chance,
@@ -19,7 +19,7 @@ pub(crate) struct Proposer {
     transmit: [Lane; MOST_PAIRS],
 }
 
-// The step of the handshake that stands there among five.
+// The handshake step with this number, 0 to 4.
 fn control_step(kind: usize) -> ControlStep {
     match kind {
         0 => ControlStep::AskEnable,
@@ -30,7 +30,7 @@ fn control_step(kind: usize) -> ControlStep {
     }
 }
 
-// The step of this kind of a receive queue, as `receive_weights` counts them.
+// The receive queue step with this index in `receive_weights`.
 fn receive_step(kind: usize, buffer: u16, lane: &Lane) -> Option<RxStep<SegmentLength>> {
     Some(match kind {
         0 => RxStep::Post(buffer),
@@ -53,7 +53,7 @@ fn receive_step(kind: usize, buffer: u16, lane: &Lane) -> Option<RxStep<SegmentL
     })
 }
 
-// The step of this kind of a transmit queue, as `transmit_weights` counts them.
+// The transmit queue step with this index in `transmit_weights`.
 fn transmit_step(
     kind: usize,
     buffer: u16,
@@ -78,7 +78,7 @@ fn transmit_step(
 }
 
 impl Proposer {
-    /// What draws the list of this number and seed.
+    /// The state for list `list` of this seed.
     pub fn new(plan: &SchedulePlan, seed: u64, list: u64) -> Proposer {
         let mut chance = Chance::new(seed, list);
         let lane = Lane::new(&mut chance);
@@ -99,17 +99,17 @@ impl Proposer {
         }
     }
 
-    // A buffer's number.
+    // A random buffer number.
     fn buffer(&mut self) -> u16 {
         u16::try_from(self.chance.below(65_536)).unwrap_or(0)
     }
 
-    /// Whether now, of so many times, is the one.
+    /// True with a probability of 1 in `n`.
     pub fn one_in(&mut self, n: u32) -> bool {
         n > 0 && self.chance.one_in(n)
     }
 
-    /// A move that might happen next, by weight; with `any` each kind is as likely as the others.
+    /// A candidate for the next move, by weight; with `any`, each kind is equally likely.
     pub fn propose(&mut self, any: bool) -> Option<Move> {
         let number = self.chance.below(self.pairs.max(1));
         let queue = QueueNumber::new(u8::try_from(number).ok()?)?;
@@ -120,7 +120,7 @@ impl Proposer {
         }
     }
 
-    // The same of this receive queue.
+    // The same for this receive queue.
     fn propose_receive(&mut self, queue: QueueNumber, any: bool) -> Option<Move> {
         let buffer = self.buffer();
         let lane = self.receive.get_mut(usize::from(queue.number()))?;
@@ -131,7 +131,7 @@ impl Proposer {
         Some(Move::Receive(queue, receive_step(kind, buffer, lane)?))
     }
 
-    // The same of this transmit queue.
+    // The same for this transmit queue.
     fn propose_transmit(&mut self, queue: QueueNumber, any: bool) -> Option<Move> {
         let buffer = self.buffer();
         let lane = self.transmit.get_mut(usize::from(queue.number()))?;
@@ -141,7 +141,7 @@ impl Proposer {
         Some(Move::Transmit(queue, step))
     }
 
-    /// A move was made.
+    /// Records a move.
     pub fn made(&mut self, action: &Move) {
         match action {
             Move::Receive(queue, _) => {

@@ -1,22 +1,22 @@
-//! How likely each kind of move is to be drawn.
+//! The weight of each kind of move.
 
-/// What a queue is being brought to: the weights of its moves change with it.
+/// The tendency of a queue, which determines the weights of its moves.
 #[derive(Clone, Copy, PartialEq, Eq)]
 pub(crate) enum Mood {
-    /// Both sides go on alike.
+    /// Both sides keep pace.
     Even,
     /// More is posted than taken or sent: rings fill.
     Filling,
     /// More is taken or sent than posted: rings drain.
     Draining,
-    /// The driver asks for a disabling, and a receive queue's controller may say that it is quiet.
+    /// The driver asks to disable, and a receive queue's controller may store quiet.
     Turning,
-    /// Each kind of move is as likely as the others.
+    /// Each kind of move is equally likely.
     Any,
 }
 
 impl Mood {
-    /// The mood of this number, of which the greatest is 3.
+    /// The mood with this number, 0 to 3.
     pub fn of(number: u32) -> Mood {
         match number {
             0 => Mood::Even,
@@ -27,19 +27,19 @@ impl Mood {
     }
 }
 
-/// How many kinds of moves a receive queue has.
+/// The number of kinds of moves of a receive queue.
 const RECEIVE_KINDS: usize = 18;
 
-/// How many kinds of moves a transmit queue has.
+/// The number of kinds of moves of a transmit queue.
 const TRANSMIT_KINDS: usize = 17;
 
-/// How many kinds of a receive queue are drawn, or only of those of data, which come first: no handshake's, none of the
-/// quiet word, of reclaiming and of renewal.
+/// The number of kinds of a receive queue's moves, or only of those of data, which come first: none of the handshake,
+/// the quiet word, reclaiming, or renewal.
 pub(crate) fn receive_kinds(of_data: bool) -> usize {
     if of_data { 7 } else { RECEIVE_KINDS }
 }
 
-/// How many kinds of a transmit queue are drawn, or only of those of data, which come first.
+/// The number of kinds of a transmit queue's moves, or only of those of data, which come first.
 pub(crate) fn transmit_kinds(of_data: bool) -> usize {
     if of_data { 8 } else { TRANSMIT_KINDS }
 }
@@ -64,8 +64,8 @@ pub(crate) fn receive_weights(mood: Mood) -> [u32; RECEIVE_KINDS] {
     }
 }
 
-/// The weights of a transmit queue's kinds of moves: post, publish, look, fetch, send, report, load report, clean; ask to
-/// enable, look asked, answer, look answered, ask to disable; reclaim; clear head, clear tail, clear report.
+/// The weights of a transmit queue's kinds of moves: post, publish, look, fetch, send, report, load report, clean; ask
+/// to enable, look asked, answer, look answered, ask to disable; reclaim; clear head, clear tail, clear report.
 pub(crate) fn transmit_weights(mood: Mood) -> [u32; TRANSMIT_KINDS] {
     match mood {
         Mood::Even => [

@@ -1,4 +1,4 @@
-//! What `forward` with captures does to the streams, and the status that it ends with.
+//! Serves `forward` with captures, and returns an exit status.
 ghost use Rattle.std.specs.Prelude.{◌≡◌, ◌≢◌, ◌⊎◌, ℕ, List, [], None, Some, false, IfErr, IfOk, OnOk};
 ghost use Rattle.std.specs.Io.KnownBytes.{Keeps};
 ghost use Rattle.commands.specs.declared.answering.TheConstants.{DONE, REFUSED};
@@ -22,15 +22,16 @@ use std::sync::Wait;
 use std::thread::Threads;
 use std::time::Clock;
 
-/// Forwards the frames of these captures, or, with no source, the script of `input`, and answers an exit status.
+/// Forwards the frames of these captures or, without sources, the script of `input`, and returns an exit status.
 ///
-/// The wires and counts go to `output`, with status 0, and what left a port to its wire files. If a wire file is standard
-/// output (`-`), `output` gets that capture, and the counts go to `screen`. A refusal goes to `faults` as one line, with
-/// status 1; before it stands the file that it is for, if it is for one. Progress goes to `screen`, if it is shown.
+/// Prints the wires and counts to `output`, with status 0, and writes the frames that left a port to its wire files.
+/// If a wire file is standard output (`-` or `/dev/stdout`), prints that capture to `output` instead, and the counts
+/// to `screen`. Prints a refusal to `faults` as one line, with status 1, after the name of the file that it concerns,
+/// if any. Shows progress on `screen`, if selected.
 ///
-/// With sources `input` is not read. The first that applies is refused: a wire file that can't be written, or that is the
-/// same file as another or as a source, before anything else is done; a source, in their order; else what `forward` refuses
-/// of a script; want of memory for what came of it; a wire file; and the output, which is printed last.
+/// With sources, `input` is not read. The first of these refusals applies: a wire file that cannot be written, or
+/// that is the same file as another or as a source, before anything else is done; a source, in order; the refusals of
+/// `forward` for a script; a lack of memory for the output; a wire file; and the output, which is printed last.
 pub fn answer<
     R: Threads + Wait + Clock + Sync + Files,
     I: Read,
@@ -68,8 +69,8 @@ pub fn answer<
     }
 }
 
-/// Forwards with captures, writes the wire files and prints what came of it. What it refuses before it prints leaves `output`
-/// as it was. A `screen` that fails changes nothing.
+/// Forwards with captures, writes the wire files and prints the output. A refusal before the printing leaves `output`
+/// unchanged. A failing `screen` changes nothing.
 pub fn perform<
     R: Threads + Wait + Clock + Sync + Files,
     I: Read,
@@ -101,8 +102,8 @@ pub fn perform<
     Ok(())
 }
 
-/// What a forwarding with captures writes to standard output, after the wire files were written; and the text of its
-/// counts, where a capture goes to standard output in its place.
+/// Writes the wire files. Returns the bytes for standard output, and the text of the counts if a capture replaces it
+/// there.
 fn page_of<R: Threads + Wait + Clock + Sync + Files, I: Read, M: Write + IsTerminal + Send>(
     rt: &R,
     alloc: Global,

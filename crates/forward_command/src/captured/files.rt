@@ -1,4 +1,4 @@
-//! Files, read and written whole.
+//! Reads and writes whole files.
 ghost use Rattle.std.specs.Prelude.{◌≡◌, ◌⊎◌, IfErr};
 ghost use Rattle.commands.specs.declared.refusal.Refusal.TheVariants as refusal;
 ghost use Rattle.forward_command.specs.CaptureForwards.{IsLost};
@@ -11,18 +11,19 @@ use std::io::{ErrorKind, Write};
 use std::os::unix::fs::MetadataExt;
 use std::rt::Files;
 
-/// How many names are tried for a file beside another.
+/// The number of names that are tried for a new file beside another.
 const MOST_PARTS: u32 = 1_000;
 
-/// The name of standard input among files.
+/// The file of standard input.
 const INPUT: &str = "/dev/stdin";
 
-/// The path of a source's file, where `-` is standard input.
+/// The path of a source's file; `-` is standard input.
 pub fn source_path(file: &str) -> &str {
     if file == "-" { INPUT } else { file }
 }
 
-/// All bytes of a source's file. It answers `FileNotRead` where they can't be read, and `Memory` where there was none for them.
+/// Reads a source's file. Returns `FileNotRead` if it cannot be read, and `Memory` if there is no memory for its
+/// bytes.
 pub fn read_file<R: Files>(rt: &R, alloc: Global, file: &str) -> Result<Vec<u8>, Refusal>
     ensures { IfErr result (λ e. (e ≡ refusal.FileNotRead) ⊎ (e ≡ refusal.Memory)) }
 {
@@ -34,8 +35,8 @@ pub fn read_file<R: Files>(rt: &R, alloc: Global, file: &str) -> Result<Vec<u8>,
     }
 }
 
-/// Writes these bytes to a new file beside this path, with the owner and the permissions of the old file, if there is one,
-/// and answers the new file's name. After a refusal it is removed.
+/// Writes these bytes to a new file beside this path. It gets the owner and permissions of the old file, if there is
+/// one. Returns the new file's name. Removes the new file if it cannot be written.
 pub fn write_part<R: Files>(
     rt: &R,
     alloc: Global,
@@ -57,7 +58,7 @@ pub fn write_part<R: Files>(
     Ok(part)
 }
 
-/// Makes a file beside this path, under a name that no other file has.
+/// Creates a file beside this path, under an unused name.
 fn new_part<R: Files>(rt: &R, alloc: Global, path: &str) -> Result<(String, R::File), Refusal>
     ensures { IfErr result IsLost }
 {
@@ -72,7 +73,7 @@ fn new_part<R: Files>(rt: &R, alloc: Global, path: &str) -> Result<(String, R::F
     Err(Refusal::FileNotWritten)
 }
 
-/// Whether the old file can be replaced by this part: it has no other name, and the part has its owner and permissions.
+/// Whether this part can replace the old file: that has no other name, and the part has its owner and permissions.
 pub fn is_kept_by<R: Files>(rt: &R, part: &str, old: &Metadata) -> bool {
     match fs::metadata(rt, part) {
         Ok(new) => {
@@ -92,7 +93,7 @@ pub fn write_into<R: Files>(rt: &R, file: &str, bytes: &[u8]) -> Result<(), Refu
     put(rt, OpenOptions::new().write(true), file, bytes)
 }
 
-/// Writes these bytes into a regular file in place of what it has.
+/// Replaces the contents of a regular file with these bytes.
 pub fn overwrite<R: Files>(rt: &R, file: &str, bytes: &[u8]) -> Result<(), Refusal>
     ensures { IfErr result (λ e. e ≡ refusal.FileNotWritten) }
 {
@@ -104,7 +105,7 @@ pub fn overwrite<R: Files>(rt: &R, file: &str, bytes: &[u8]) -> Result<(), Refus
     )
 }
 
-/// Opens a file that is there, and writes these bytes.
+/// Opens an existing file, and writes these bytes.
 fn put<R: Files>(rt: &R, how: &OpenOptions, file: &str, bytes: &[u8]) -> Result<(), Refusal>
     ensures { IfErr result (λ e. e ≡ refusal.FileNotWritten) }
 {
@@ -112,7 +113,7 @@ fn put<R: Files>(rt: &R, how: &OpenOptions, file: &str, bytes: &[u8]) -> Result<
     opened.write_all(bytes).map_err(|_| Refusal::FileNotWritten)
 }
 
-/// Gives a file another name, in place of what stood there. A file that can't be renamed is removed.
+/// Renames a file, replacing the file at the new name. Removes the file if it cannot be renamed.
 pub fn rename<R: Files>(rt: &R, from: &str, to: &str) -> Result<(), Refusal>
     ensures { IfErr result (λ e. e ≡ refusal.FileNotWritten) }
 {
@@ -125,7 +126,7 @@ pub fn rename<R: Files>(rt: &R, from: &str, to: &str) -> Result<(), Refusal>
     }
 }
 
-/// Removes a file, if that can be done.
+/// Removes a file, if possible.
 pub fn remove<R: Files>(rt: &R, file: &str) {
     let _ = fs::remove_file(rt, file);
 }

@@ -1,4 +1,4 @@
-//! Which file a path names, so that no file is named twice.
+//! The identity of the file at a path, so that no file is named twice.
 ghost use Rattle.std.specs.Prelude.{IfErr};
 ghost use Rattle.forward_command.specs.CaptureForwards.{IsTaken};
 
@@ -9,18 +9,18 @@ use std::os::unix::fs::{FileTypeExt, MetadataExt};
 use std::path::Path;
 use std::rt::Files;
 
-/// Which file a path names.
+/// The identity of the file at a path.
 #[derive(PartialEq, Eq, Drop)]
 pub(crate) enum Identity {
     /// Standard output.
     Output,
-    /// A file that is there: its device and its inode.
+    /// An existing file: its device and its inode.
     File { device: u64, inode: u64 },
-    /// No file yet: the absolute path, with no symbolic link in it.
+    /// A missing file: its absolute path, without symbolic links.
     Absent { path: String },
 }
 
-/// The identity of a file that is there. A character device has none: it may be named any number of times.
+/// The identity of an existing file. A character device has none: it may be named any number of times.
 pub(crate) fn identity_of(found: &Metadata) -> Option<Identity> {
     if found.file_type().is_char_device() {
         return None;
@@ -29,7 +29,7 @@ pub(crate) fn identity_of(found: &Metadata) -> Option<Identity> {
     Some(Identity::File { device, inode })
 }
 
-/// The identity of a path with no file yet, whose folder has to be there.
+/// The identity of a missing file. Its folder must exist.
 pub(crate) fn absent<R: Files>(rt: &R, alloc: Global, path: &str) -> Result<Identity, Refusal>
     ensures { IfErr result IsTaken }
 {

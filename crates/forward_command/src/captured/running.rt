@@ -1,4 +1,4 @@
-//! A forwarding with captures: its script, its page and its wire files.
+//! A forwarding with captures: its script, its output and its wire files.
 ghost use Rattle.std.specs.Prelude.{◌≡◌, ◌≢◌, ◌*◌, ◌≤◌, [], length, None, IfErr, IfOk, option_map};
 ghost use Rattle.limits.specs.declared.profile.TheConstants.{MOST_PAIRS, PORTS};
 ghost use Rattle.forward_command.specs.CaptureForwards.{IsFaulty, IsNoScript, IsScript, IsUnpaged};
@@ -20,7 +20,7 @@ use std::io::Read;
 use std::rt::Files;
 use wire_script::Script;
 
-/// The script of the sources' captures, or, with no source, of the input.
+/// The script of the sources' captures or, without sources, of the input.
 pub(crate) fn script_for<R: Files, I: Read>(
     rt: &R,
     alloc: Global,
@@ -47,8 +47,8 @@ fn read_script<I: Read>(alloc: Global, input: &mut I) -> Result<Script, Refusal>
     script_in(alloc, text)
 }
 
-/// What goes to standard output of these reports, after the wire files were written; and the text of the counts, where a
-/// capture goes to standard output in its place.
+/// Writes the wire files. Returns the bytes for standard output, and the text of the counts if a capture replaces it
+/// there.
 pub(crate) fn page_for<R: Files>(
     rt: &R,
     alloc: Global,
@@ -74,7 +74,7 @@ pub(crate) fn page_for<R: Files>(
     }
 }
 
-/// The capture that goes to standard output, if one does.
+/// The capture for standard output, if any.
 fn streamed(
     alloc: Global,
     pairs: usize,

@@ -1,4 +1,4 @@
-//! Where wire captures go, found before anything is forwarded.
+//! The targets of wire captures, determined before anything is forwarded.
 ghost use Rattle.std.specs.Prelude.{◌≡◌, ◌⊎◌, ◌+◌, length, IfErr, IfOk, OnOk};
 ghost use Rattle.commands.specs.declared.refusal.Refusal.TheVariants as refusal;
 ghost use Rattle.forward_command.specs.CaptureForwards.{IsTaken, IsUntargeted};
@@ -15,25 +15,25 @@ use std::io::ErrorKind;
 use std::path::Path;
 use std::rt::Files;
 
-/// How many symbolic links in a row are followed, as by Linux.
+/// The maximum number of consecutive symbolic links, as in Linux.
 const MOST_LINKS: u32 = 40;
 
-/// Where the capture of a port goes.
+/// The target of a port's capture.
 #[derive(Drop)]
 pub(crate) enum Target {
     /// Standard output.
     Output,
     /// A FIFO, a device or a socket: the capture is written into it.
     Stream,
-    /// A path with no file yet: the capture is written beside it and then renamed.
+    /// A missing file: the capture is written beside this path, and then renamed.
     New { path: String },
-    /// A regular file: the capture is written beside it, and then takes its place.
+    /// A regular file: the capture is written beside it, and then replaces it or its contents.
     Regular { path: String, old: Metadata },
 }
 
-/// The targets of wire files, one each, with nothing changed.
+/// Determines the target of each wire file. Changes nothing.
 ///
-/// It refuses the first wire file that can't be written, or that is the same file as one before it or as a source. A
+/// Refuses the first wire file that cannot be written, or that is the same file as an earlier one or as a source. A
 /// character device such as `/dev/null` may be named any number of times.
 pub(crate) fn targets_of<R: Files>(
     rt: &R,
@@ -56,7 +56,7 @@ pub(crate) fn targets_of<R: Files>(
     Ok(targets)
 }
 
-/// The files that sources name. One that isn't there is refused where it is read.
+/// The files of the sources. A missing one is refused when it is read.
 fn taken_by<R: Files>(
     rt: &R,
     alloc: Global,
@@ -73,7 +73,7 @@ fn taken_by<R: Files>(
     Ok(taken)
 }
 
-/// Which file a source names, if it is there.
+/// The identity of a source's file, if it exists.
 fn source_identity<R: Files>(rt: &R, file: &str) -> Option<Identity> {
     match fs::metadata(rt, source_path(file)) {
         Ok(found) => identity_of(&found),
@@ -81,7 +81,7 @@ fn source_identity<R: Files>(rt: &R, file: &str) -> Option<Identity> {
     }
 }
 
-/// Puts the target of this file behind others, and which file it is behind those that are taken.
+/// Appends the target of this file, and its identity to those taken.
 fn add_target<R: Files>(
     rt: &R,
     alloc: Global,
@@ -102,7 +102,7 @@ fn add_target<R: Files>(
     targets.push(target).map_err(|_| Refusal::Memory)
 }
 
-/// Where this file's capture goes, and which file that is.
+/// The target of this file's capture, and the file's identity.
 fn target_of<R: Files>(
     rt: &R,
     alloc: Global,
@@ -122,7 +122,7 @@ fn target_of<R: Files>(
     }
 }
 
-/// A regular file, which has to be one that may be written.
+/// A regular file. It must be writable.
 fn regular<R: Files>(
     rt: &R,
     alloc: Global,
@@ -139,7 +139,7 @@ fn regular<R: Files>(
     Ok((Target::Regular { path, old }, identity))
 }
 
-/// A path with no file yet, behind symbolic links.
+/// A missing file, after following symbolic links.
 fn new<R: Files>(rt: &R, alloc: Global, file: &str) -> Result<(Target, Option<Identity>), Refusal>
     ensures { IfErr result IsTaken }
 {
@@ -148,7 +148,7 @@ fn new<R: Files>(rt: &R, alloc: Global, file: &str) -> Result<(Target, Option<Id
     Ok((Target::New { path }, Some(identity)))
 }
 
-/// Where the symbolic links at the end of this path lead.
+/// Follows the symbolic links at the end of this path.
 fn followed<R: Files>(rt: &R, alloc: Global, file: &str) -> Result<String, Refusal>
     ensures { IfErr result IsTaken }
 {
@@ -162,7 +162,7 @@ fn followed<R: Files>(rt: &R, alloc: Global, file: &str) -> Result<String, Refus
     Err(Refusal::FileNotWritten)
 }
 
-/// Where the symbolic link at this path leads, if there is one.
+/// The target of the symbolic link at this path, if there is one.
 fn link_at<R: Files>(rt: &R, alloc: Global, path: &str) -> Result<Option<String>, AllocError> {
     let Ok(link) = rt.read_link(alloc, path) else {
         return Ok(None);

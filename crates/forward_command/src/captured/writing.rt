@@ -1,7 +1,8 @@
-//! Wire captures, written to their files.
+//! Writes wire captures to their files.
 //!
-//! All that replace files are written beside them first, so that a refusal leaves the old files whole. Then each takes its
-//! place, and those that go into FIFOs and devices are written.
+//! First, all captures for regular and missing files are written to new files beside them, so that a refusal leaves
+//! the old files unchanged. Then each new file is moved into place, and captures for FIFOs, devices and sockets are
+//! written.
 ghost use Rattle.std.specs.Prelude.{◌≡◌, ◌+◌, ◌*◌, ◌<◌, ◌≤◌, length, IfErr, OnOk};
 ghost use Rattle.limits.specs.declared.profile.TheConstants.{MOST_PAIRS, PORTS};
 ghost use Rattle.forward_command.specs.CaptureForwards.{IsLost, IsUnpaged};
@@ -16,10 +17,10 @@ use flows::FlowReport;
 use std::alloc::Global;
 use std::rt::Files;
 
-/// Writes the captures of wire files to their targets, but for standard output.
+/// Writes the captures of wire files to their targets, except standard output.
 ///
-/// Until all that replace files are written beside them, a refusal removes what was written and leaves the old files as
-/// they were. After that the first that can't take its place is refused, and those after it are removed.
+/// While new files are written beside their targets, a refusal removes them and leaves the old files unchanged. After
+/// that, the first capture that cannot be moved into place is refused, and the new files after it are removed.
 pub(crate) fn write_wires<R: Files>(
     rt: &R,
     alloc: Global,
@@ -46,7 +47,7 @@ pub(crate) fn write_wires<R: Files>(
     put_all(rt, alloc, pairs, wires, targets, parts.as_slice(), flows)
 }
 
-/// Puts the part of a target behind others.
+/// Appends the part of a target.
 fn add_part<R: Files>(
     rt: &R,
     alloc: Global,
@@ -68,7 +69,7 @@ fn add_part<R: Files>(
     Ok(())
 }
 
-/// Writes the capture of a port beside the file that it replaces, if it replaces one, and answers the part's name.
+/// Writes the capture of a port beside its file, unless that is a stream or standard output. Returns the part's name.
 fn part_of<R: Files>(
     rt: &R,
     alloc: Global,
@@ -92,7 +93,7 @@ fn part_of<R: Files>(
     Ok(Some(part))
 }
 
-/// Puts each capture where it goes: parts take the places of the files that they replace.
+/// Moves each capture into place.
 fn put_all<R: Files>(
     rt: &R,
     alloc: Global,
@@ -127,7 +128,7 @@ fn put_all<R: Files>(
     Ok(())
 }
 
-/// Puts a capture where it goes. A part that can't be renamed is removed; one that can't be copied stays.
+/// Moves a capture into place. A part that cannot be renamed is removed; one that cannot be copied stays.
 fn put_one<R: Files>(
     rt: &R,
     alloc: Global,
@@ -160,7 +161,7 @@ fn put_one<R: Files>(
     }
 }
 
-/// Removes these parts, as far as that can be done.
+/// Removes these parts, as far as possible.
 fn remove_all<R: Files>(rt: &R, parts: &[Option<String>]) {
     for part in parts {
         if let Some(part) = part {

@@ -10,7 +10,7 @@ use std::sync::Wait;
 use std::test::Fail;
 use std::thread::Threads;
 
-// The numbers that come out of a pool until it is empty, sorted. They stay out.
+// Empties a pool, and returns the sorted numbers of the buffers. They stay out.
 fn drained<R: Wait>(
     rt: &R,
     alloc: Global,
@@ -43,20 +43,20 @@ fn take_three<R: Wait>(rt: &R, pool: &Pool, pass: &mut PoolPass) -> Result<bool,
     Ok(right)
 }
 
-// The number of the buffer that comes out of a stash.
+// The number of the next buffer from a stash.
 fn number_out_of(stash: &mut Stash) -> Option<u16> {
     let buf = stash.take()?;
     Some(buf.number())
 }
 
-// The stash has the numbers down from 15 to this one.
+// The stash has the numbers from 15 down to this one.
 fn has_down_to<R: Abort>(rt: &R, stash: &mut Stash, least: u16) {
     for want in (least..16).rev() {
         same(rt, number_out_of(stash), Some(want));
     }
 }
 
-// Of a pool whose buffers from 3 on are left, the first pass takes all and gives one back, which the second takes.
+// From a pool that has its buffers from 3 on, the first pass takes all and gives one back, which the second takes.
 fn give_one<R: Wait + Abort>(
     rt: &R,
     pool: &Pool,
@@ -78,7 +78,7 @@ fn give_one<R: Wait + Abort>(
     Ok(())
 }
 
-// The stash has the others then.
+// Then the stash has the others.
 fn share<R: Wait + Abort>(
     rt: &R,
     pool: &Pool,
@@ -119,7 +119,7 @@ fn a_stash_is_refilled_in_the_order_of_the_pool(rt: HostRuntime) -> Result<(), F
     Ok(())
 }
 
-// Why no pool of so many buffers is made.
+// The refusal of a pool of `count` buffers.
 fn refusal_of<R: Wait>(rt: &R, alloc: Global, count: u32) -> Option<PoolError> {
     Pool::new(rt, alloc, count).err()
 }
@@ -147,14 +147,14 @@ fn only_lawful_counts_are_made(rt: HostRuntime) {
     }
 }
 
-// With the first or a later allocation refused, as `rt try --test --fail-alloc` does, this passes too.
+// Also passes if the first or a later allocation is refused, as by `rt try --test --fail-alloc`.
 #[test]
 fn without_memory_no_pool_is_made(rt: HostRuntime) {
     let refusal = refusal_of(&rt, rt.alloc(), 16);
     holds(&rt, matches!(refusal, None | Some(PoolError::Memory)));
 }
 
-// The numbers are 0 to one less than this.
+// The numbers are those below `count`.
 fn are_all<R: Abort>(rt: &R, numbers: &[u16], count: u32) {
     same(rt, numbers.len(), count as usize);
     let mut want = 0u32;
@@ -164,7 +164,7 @@ fn are_all<R: Abort>(rt: &R, numbers: &[u16], count: u32) {
     }
 }
 
-// A pool of so many buffers has each of them again once four threads worked on it.
+// A pool of `count` buffers has each of them again after four threads worked on it.
 fn races<R: Threads + Wait + Sync + Abort>(rt: &R, alloc: Global, count: u32) -> Result<(), Fail> {
     let (pool, pass) = Pool::new(rt, alloc, count)?;
     let job = Job {

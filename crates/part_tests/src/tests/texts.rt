@@ -1,4 +1,4 @@
-//! Scripts of frames, and captures.
+//! Wire scripts and captures.
 
 mod blocks;
 mod captures;

@@ -24,7 +24,7 @@ use rx_ring::{RxControllerEnd, RxDriverEnd, RxRing, meet_rx};
 use std::alloc::Global;
 use tx_ring::{TxControllerEnd, TxDriverEnd, TxRing, meet_tx};
 
-/// Closes a receive ring by its two ends. Returns how many buffers lay in it, or -1 if the ring has another owner; both
+/// Closes a receive ring by its two ends. Returns how many buffers it held, or -1 if the ring has another owner; both
 /// handles are then empty. Returns -2 if a handle is empty or of another kind, and leaves both.
 #[unsafe(no_mangle)]
 pub extern "C" fn poll82599_rx_close(
@@ -51,7 +51,7 @@ pub extern "C" fn poll82599_rx_close(
     rx_closed(driving, serving)
 }
 
-/// Closes a transmit ring by its two ends. Returns how many buffers lay in it, or -1 if the ring has another owner;
+/// Closes a transmit ring by its two ends. Returns how many buffers it held, or -1 if the ring has another owner;
 /// both handles are then empty. Returns -2 if a handle is empty or of another kind, and leaves both.
 #[unsafe(no_mangle)]
 pub extern "C" fn poll82599_tx_close(
@@ -78,7 +78,7 @@ pub extern "C" fn poll82599_tx_close(
     tx_closed(driving, serving)
 }
 
-/// Closes a receive queue by its driver and its device. Returns how many buffers lay in its ring, or -1 if the ring has
+/// Closes a receive queue by its driver and its device. Returns how many buffers its ring held, or -1 if the ring has
 /// another owner; both handles are then empty. Returns -2 if a handle is empty or of another kind, and leaves both.
 #[unsafe(no_mangle)]
 pub extern "C" fn poll82599_rx_queue_close(
@@ -105,7 +105,7 @@ pub extern "C" fn poll82599_rx_queue_close(
     rx_queue_closed(driving, serving)
 }
 
-/// Closes a transmit queue by its driver and its device. Returns how many buffers lay in its ring, or -1 if the ring
+/// Closes a transmit queue by its driver and its device. Returns how many buffers its ring held, or -1 if the ring
 /// has another owner; both handles are then empty. Returns -2 if a handle is empty or of another kind, and leaves both.
 #[unsafe(no_mangle)]
 pub extern "C" fn poll82599_tx_queue_close(
@@ -240,7 +240,7 @@ fn tx_queue_closed(queue: TxQueue, device: TxDevice) -> i64
     tx_close(driving, serving)
 }
 
-/// Closes a receive ring by its two halves. Returns how many buffers lay in it, or -1 if the ring has another owner.
+/// Closes a receive ring by its two halves. Returns how many buffers it held, or -1 if the ring has another owner.
 fn rx_close(driving: Half<RxRing, RxDriverEnd>, serving: Half<RxRing, RxControllerEnd>) -> i64
     requires { driving.table ≡ serving.table }
     ensures lawful { rx.AreLawful (Some driving) (Some serving) }
@@ -256,7 +256,7 @@ fn rx_close(driving: Half<RxRing, RxDriverEnd>, serving: Half<RxRing, RxControll
     }
 }
 
-/// Closes a transmit ring by its two halves. Returns how many buffers lay in it, or -1 if the ring has another owner.
+/// Closes a transmit ring by its two halves. Returns how many buffers it held, or -1 if the ring has another owner.
 fn tx_close(driving: Half<TxRing, TxDriverEnd>, serving: Half<TxRing, TxControllerEnd>) -> i64
     requires { driving.table ≡ serving.table }
     ensures lawful { tx.AreLawful (Some driving) (Some serving) }

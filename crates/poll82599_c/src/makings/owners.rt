@@ -42,7 +42,7 @@ pub(crate) fn unclosed<T: Drop, U: Drop>(one: T, other: U) -> i64
     -1
 }
 
-/// Counts the buffers that lie in the places of a closed ring.
+/// Counts the buffers in the places of a closed ring.
 pub(crate) fn lying(places: Vec<Option<Buf>>) -> i64
     ensures { result ≢ negsuc 1 }
 {

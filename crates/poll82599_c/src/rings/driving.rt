@@ -63,7 +63,7 @@ impl RxDriving {
         }
     }
 
-    /// Stores the tail behind all that is posted. Returns 1, or 0 if a disabling was asked for.
+    /// Stores the tail after the last posted descriptor. Returns 1, or 0 if a disabling was asked for.
     pub(crate) fn publish(&mut self) -> u32
         ensures own { self.new.table ≡ self.old.table }
         ensures step { (result ≡ 1) → PublishedAll self.old self.new }
@@ -232,7 +232,7 @@ impl TxDriving {
         }
     }
 
-    /// Stores the tail behind all that is posted. Returns 1, or 0 if a disabling was asked for or a frame is
+    /// Stores the tail after the last posted descriptor. Returns 1, or 0 if a disabling was asked for or a frame is
     /// unfinished.
     pub(crate) fn publish(&mut self) -> u32
         ensures own { self.new.table ≡ self.old.table }

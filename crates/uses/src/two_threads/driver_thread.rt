@@ -6,7 +6,7 @@ use rx_ring::{DriverEnd, Poll, RxDriverEnd, RxRing};
 use std::sync::Wait;
 use std::thread;
 
-/// Posts an empty buffer and stores the tail behind it, if there is a buffer and the ring has room.
+/// Posts an empty buffer and stores the tail after it, if there is a buffer and the ring has room.
 fn post_one(ring: &RxRing, driver: &mut RxDriverEnd, stash: &mut Stash)
     requires own { driver.old.table ≡ ring.now }
     ensures own { driver.new.table ≡ ring.now }

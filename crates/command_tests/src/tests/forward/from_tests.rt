@@ -48,7 +48,8 @@ const OTHERS: &[Writing] = &[
     (WORDS, &[HEADER], &[b""]),
 ];
 
-/// A pcapng file up to the data of its packet: section header, Ethernet interface, and the head of an enhanced packet block.
+/// A pcapng file up to the data of its packet: section header, Ethernet interface, and the head of an enhanced packet
+/// block.
 const BLOCKS: &[u8] =
     b"\x0a\x0d\x0d\x0a\x1c\0\0\0\x4d\x3c\x2b\x1a\x01\0\0\0\xff\xff\xff\xff\xff\xff\xff\xff\x1c\0\0\0\x01\0\0\0\x14\0\0\0\x01\0\0\0\0\0\0\0\x14\0\0\0\x06\0\0\0\x30\0\0\0\0\0\0\0\0\0\0\0\0\0\0\0\x0e\0\0\0\x0e\0\0\0";
 
@@ -59,7 +60,7 @@ const PADDED: &[u8] = b"\0\0\x30\0\0\0";
 const NEXT: &[u8] =
     b"\x0a\x0d\x0d\x0a\x84\0\0\0\x4d\x3c\x2b\x1a\x01\0\0\0\xff\xff\xff\xff\xff\xff\xff\xff";
 
-/// The header of a record of 13 bytes, and a frame of as many.
+/// The header of a record of 13 bytes, and a frame of 13 bytes.
 const SMALL: &[u8] = b"\0\0\0\0\0\0\0\0\x0d\0\0\0\x0d\0\0\0";
 
 const THIRTEEN: &[u8] = b"abcdefghijklm";

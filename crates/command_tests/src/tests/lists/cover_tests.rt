@@ -1,4 +1,4 @@
-//! The printed text of lists that together cover all that a queue can do.
+//! The printed text of lists that together meet every reachable pair of a queue.
 
 use crate::tests::lists::QUEUES;
 use crate::tests::streams::Narrow;

@@ -1,11 +1,11 @@
-//! The forms of what is expected of lists, and the recommended lists, by the words for them.
+//! The forms of the expected output of lists, and the recommended lists, by their words.
 
 use crate::tests::runs::{Host, outcome_of};
 use crate::tests::told::{Row, each_comes_to};
 use crate::tests::wanted::same;
 use std::alloc::Global;
 
-/// A list of two moves, and what each form prints of it, by hand.
+/// A list of two moves, with its expected output in each form, written by hand.
 const FORMS: &[Row] = &[
     Row {
         words: &["schedules", "--seed", "1", "--moves", "2", "--expect"],
@@ -48,7 +48,7 @@ fn what_is_expected_has_the_form_that_is_asked_for(rt: HostRuntime) {
     each_comes_to(&rt, rt.alloc(), FORMS)
 }
 
-/// Whether a line says that of 2,000 moves some were refused, and no more than 200.
+/// Whether a line counts 2,000 moves, of which 1 to 200 were refused.
 fn counts_two_thousand(line: &str) -> bool {
     line.ends_with(" of 2000") && (line.starts_with("moves 18") || line.starts_with("moves 19"))
 }

@@ -3,7 +3,7 @@
 use crate::tests::runs::outcome_of;
 use crate::tests::told::{Row, comes_to_text, each_comes_to};
 
-/// What comes of lists, by hand.
+/// Lists and their output, written by hand.
 const LISTS: &[Row] = &[
     Row {
         words: &["replay", "--lists"],
@@ -50,14 +50,14 @@ const LISTS: &[Row] = &[
         output: "r0 A1 place 0\nr0 A2 tail 1\nmoves 2 of 2\n",
         faults: "",
     },
-    // each list has the form that is asked for
+    // each list has the selected form
     Row {
         words: &["replay", "--lists", "--registers"],
         input: "r0 A1 5\nr0 A2\n# end\nr0 A2\n",
         output: "r0 A1 place 0\nRDH 0 RDT 0 RXDCTL.ENABLE 1\nr0 A2 tail 1\nRDH 0 RDT 1 RXDCTL.ENABLE 1\nmoves 2 of 2\nr0 A2 tail 0\nRDH 0 RDT 0 RXDCTL.ENABLE 1\nmoves 1 of 1\n",
         faults: "",
     },
-    // a refusal names the line of the whole input, and nothing is printed
+    // a refusal has the line of the whole input, and nothing is printed
     Row {
         words: &["replay", "--lists"],
         input: "r0 A2\n# end\n\nr0 A9\n# end\n",
@@ -77,7 +77,7 @@ fn each_list_starts_over(rt: HostRuntime) {
     each_comes_to(&rt, rt.alloc(), LISTS)
 }
 
-/// Two lists, and what is told of their moves.
+/// Words for two lists.
 const SCHEDULES: &[&str] = &["schedules", "--seed", "1", "--moves", "4", "--count", "2"];
 
 const TOLD: &str =

@@ -443,7 +443,7 @@ impl Queue {
         }
     }
 
-    /// The pair that is met when this queue is asked for a move and answers this.
+    /// The pair that this move meets on this queue with this outcome.
     fn pair(&self, action: Move, told: Told) -> Pair {
         Pair {
             action,

@@ -3,12 +3,12 @@ use buffer_pool::{Buf, Packet, Stock};
 use std::alloc::Global;
 use std::process::Abort;
 
-// Byte i of a packet as it is made.
+// Byte `i` of a new packet.
 fn byte_at(i: usize) -> u8 {
     (i % 251) as u8
 }
 
-// So many bytes of a packet, from this one on.
+// The `len` bytes of a packet from `at` on.
 fn bytes_from<R: Abort>(rt: &R, alloc: Global, at: usize, len: usize) -> Vec<u8> {
     let mut bytes = Vec::new(alloc);
     for k in 0..len {
@@ -19,7 +19,7 @@ fn bytes_from<R: Abort>(rt: &R, alloc: Global, at: usize, len: usize) -> Vec<u8>
     bytes
 }
 
-// Puts a buffer of these bytes behind the others of a packet, which has room for it.
+// Adds a buffer with these bytes to the packet, which has room for it.
 fn add(packet: &mut Packet, mut buf: Buf, bytes: &[u8]) {
     if bytes.is_empty() || bytes.len() > buf.capacity() || packet.segments() == 15 {
         return;
@@ -28,7 +28,7 @@ fn add(packet: &mut Packet, mut buf: Buf, bytes: &[u8]) {
     packet.push_back(buf);
 }
 
-// A whole packet of segments of these lengths, in buffers numbered from 100.
+// A complete packet with segments of these lengths, in buffers numbered from 100.
 fn packet<R: Abort>(rt: &R, alloc: Global, lengths: &[usize]) -> Packet {
     let mut stock = Stock::new(alloc, 100, 16).expect(rt, "a stock");
     let mut packet = Packet::default();
@@ -43,7 +43,7 @@ fn packet<R: Abort>(rt: &R, alloc: Global, lengths: &[usize]) -> Packet {
     remade(packet)
 }
 
-// The packet, made anew of its buffers where it is whole.
+// The packet, made again from its buffers if it is complete.
 fn remade(packet: Packet) -> Packet {
     if packet.is_whole() {
         Packet::new(packet.into_bufs())
@@ -52,7 +52,7 @@ fn remade(packet: Packet) -> Packet {
     }
 }
 
-// Byte i, and what is there once 255 is written over it.
+// Byte `i`, before and after it is overwritten with 255.
 fn overwrite(packet: &mut Packet, i: usize) -> Option<(u8, u8)> {
     if i >= packet.len() {
         return None;
@@ -66,7 +66,7 @@ fn overwrite(packet: &mut Packet, i: usize) -> Option<(u8, u8)> {
     }
 }
 
-// What is wrong with a packet of segments of these lengths, if anything is.
+// What is wrong with a packet of segments of these lengths, if anything.
 fn fault<R: Abort>(rt: &R, alloc: Global, lengths: &[usize], len: usize) -> Option<&'static str> {
     let mut packet = packet(rt, alloc, lengths);
     if packet.len() != len || packet.segments() != lengths.len() {
@@ -86,7 +86,7 @@ fn fault<R: Abort>(rt: &R, alloc: Global, lengths: &[usize], len: usize) -> Opti
     None
 }
 
-// Whether a copy has so many of a packet's bytes, and what stood there before behind them.
+// Whether the copy has the first `len` bytes of a packet and is unchanged after them.
 fn is_copy(copy: &[u8], len: usize) -> bool {
     for i in 0..copy.len() {
         let want = if i < len { byte_at(i) } else { 9 };
@@ -116,7 +116,7 @@ fn bytes_are_those_of_the_segments_in_order(rt: HostRuntime) {
     same(&rt, fault(&rt, rt.alloc(), &[1_000; 15], 15_000), None);
 }
 
-// The first and the last byte of each segment, and the buffers that have them afterwards.
+// The first and last byte of each segment, and the buffers that hold them afterwards.
 #[test]
 fn a_byte_at_each_edge_is_read_and_written(rt: HostRuntime) {
     let mut packet = packet(&rt, rt.alloc(), &[2, 2_048, 1, 1_000]);

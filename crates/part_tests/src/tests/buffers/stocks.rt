@@ -78,7 +78,7 @@ fn only_lawful_counts_are_made(rt: HostRuntime) {
     }
 }
 
-// With the first or a later allocation refused, as `rt try --test --fail-alloc` does, this passes too.
+// Also passes if the first or a later allocation is refused, as by `rt try --test --fail-alloc`.
 #[test]
 fn without_memory_no_stock_is_made(rt: HostRuntime) {
     let refusal = Stock::new(rt.alloc(), 0, 16).err();

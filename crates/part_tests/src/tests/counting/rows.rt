@@ -1,4 +1,4 @@
-//! What is written is read, numbers that can't stand together are told, and memory may be refused.
+//! A written moment is read back, inconsistent numbers are recognized, and memory may be refused.
 ghost use Rattle.std.specs.Prelude.{◌≡◌};
 ghost use Rattle.moments.specs.Moments.{NoneFalls};
 
@@ -24,7 +24,7 @@ pub fn shows<R: Abort + Wait, T: Moment<N> + PartialEq + Debug, const N: usize>(
     assert_eq!(rt; cell.read(rt, pass), numbers);
 }
 
-/// A pass shows the opening first, and then what is written, as one does that is told afterwards.
+/// A pass shows the opening first and then the written numbers. A pass that begins afterwards shows the latter.
 fn what_is_written_is_read<R: Abort + Wait, T: Moment<N> + PartialEq + Debug, const N: usize>(
     rt: &R,
     alloc: Global,
@@ -114,7 +114,7 @@ fn is_of_memory(refused: CounterError) -> bool {
     refused == CounterError::Memory && refused.number() == 61
 }
 
-// With any one allocation refused, as `rt try --test --fail-alloc N` does, this passes too.
+// Also passes if any one allocation is refused, as by `rt try --test --fail-alloc N`.
 #[test]
 fn want_of_memory(rt: HostRuntime) {
     match FlowCells::of(rt.alloc(), 2) {

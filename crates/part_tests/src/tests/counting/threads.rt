@@ -9,12 +9,12 @@ use std::sync::Wait;
 use std::thread;
 use std::thread::Threads;
 
-/// How often the writing thread writes, and how often a reading thread reads at most.
+/// The number of writes, and the most reads per reading thread.
 const WRITES: u64 = 100_000;
 
 const _: () = prove!(WRITES == 100_000);
 
-/// The numbers after so many writes.
+/// The numbers after `writes` writes.
 fn row(writes: u64) -> Offered
     requires { writes ≤ WRITES }
     ensures { result ≡ record { offered = 6 * writes; stored = 3 * writes; dropped = 2 * writes; oversize = writes } }
@@ -38,8 +38,7 @@ fn write_all<R: Wait>(rt: &R, cell: &StatCell, mut pen: StatPen) -> StatPen
     pen
 }
 
-/// Whether each moment that was read is one that was written or the opening, and none is older than
-/// the one before.
+/// Whether each moment read is the opening or a written one, and none is older than the one before.
 fn read_all<R: Wait>(rt: &R, cell: &StatCell, mut pass: StatPass) -> bool
     requires own { pass.cell ≡ cell.now }
 {

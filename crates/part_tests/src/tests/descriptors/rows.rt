@@ -1,4 +1,4 @@
-//! Rows of descriptors in bytes, and what no clause says: the printed text.
+//! Rows of descriptors in bytes, and the printed text, which no clause pins.
 
 use crate::tests::wanted::{holds, same};
 use descriptor::{DescError, Descriptor, RxBack, RxRead, TxBack, TxRead};
@@ -6,10 +6,10 @@ use std::alloc::Global;
 use std::fmt::Display;
 use std::process::Abort;
 
-// 60 bytes that end their frame, written back.
+// A written-back descriptor: 60 bytes with EOP.
 const RX_BACK: [u8; 16] = [0, 0, 0, 0, 0, 0, 0, 0, 3, 0, 0, 0, 60, 0, 0, 0];
 
-// Buffer 5 with a whole frame of 60 bytes, to be reported.
+// Buffer 5 with a complete frame of 60 bytes and RS.
 const TX_READ: [u8; 16] = [
     0, 0x28, 0, 0, 0, 0, 0, 0, 0x3c, 0, 0x30, 0x2b, 0, 0, 0x0f, 0,
 ];
@@ -19,12 +19,12 @@ const RX_READ: [u8; 16] = [0, 0xf8, 0xff, 7, 0, 0, 0, 0, 0, 0, 0, 0, 0, 0, 0, 0]
 
 const TX_BACK: [u8; 16] = [0, 0, 0, 0, 0, 0, 0, 0, 0, 0, 0, 0, 1, 0, 0, 0];
 
-// The number of the refusal, or 0 where the bytes were accepted.
+// The number of the refusal, or 0 if the bytes are accepted.
 fn refusal<T: Drop>(answer: Result<T, DescError>) -> u8 {
     answer.err().map_or(0, |error| error.number())
 }
 
-// The bytes with one bit of the 128 turned, the lowest bit of the first byte being 0.
+// The bytes with one of their 128 bits flipped; bit 0 is the lowest bit of the first byte.
 fn flipped(mut bytes: [u8; 16], bit: usize) -> [u8; 16] {
     if let Some(byte) = bytes.get_mut(bit / 8) {
         *byte ^= 1 << (bit % 8);
@@ -63,7 +63,7 @@ fn each_form_is_coded_both_ways(rt: HostRuntime) {
     same(&rt, TxBack::from_bytes(&TX_BACK), Ok(TxBack));
 }
 
-// How many of the 128 forms with one bit turned get this refusal, or 0 for none.
+// How many of the 128 forms with one flipped bit are refused with this number, or accepted for 0.
 fn refused_alike<D: Descriptor + Drop>(bytes: [u8; 16], wanted: u8) -> usize {
     (0..128)
         .filter(|bit| refusal(D::from_bytes(&flipped(bytes, *bit))) == wanted)
@@ -108,7 +108,7 @@ fn other_lengths_are_refused(rt: HostRuntime) {
 
 #[test]
 fn the_lowest_refusal_is_answered(rt: HostRuntime) {
-    // DTYP 2, then also a data length of 0, then also bit 26
+    // DTYP 2, then also a data length of 0, then also bit 26.
     let mut bytes = TX_READ;
     bytes[10] = 0x20;
     same(&rt, TxRead::from_bytes(&bytes), Err(DescError::Kind));
@@ -116,7 +116,7 @@ fn the_lowest_refusal_is_answered(rt: HostRuntime) {
     same(&rt, TxRead::from_bytes(&bytes), Err(DescError::Kind));
     bytes[11] = 0x2f;
     same(&rt, TxRead::from_bytes(&bytes), Err(DescError::Reserved));
-    // no data, then also a VLAN tag
+    // No data, then also a VLAN tag.
     let mut bytes = RX_BACK;
     bytes[12] = 0;
     same(&rt, RxBack::from_bytes(&bytes), Err(DescError::Size));
@@ -178,7 +178,7 @@ fn status_words_are_read(rt: HostRuntime) {
     );
 }
 
-// It is printed so.
+// The printed text.
 fn is_printed<R: Abort, T: Display>(rt: &R, alloc: Global, printed: &T, wanted: &str) {
     let text = format!(in alloc; "{printed}").expect(rt, "a text");
     same(rt, text.as_str(), wanted);

@@ -1,11 +1,11 @@
-//! Captures in pcapng: which blocks are read, what is refused, and times. The bytes follow the format's draft.
+//! Captures in pcapng: the blocks that are read, the refusals, and times. The bytes follow the format's draft.
 
 use crate::tests::wanted::same;
 use capture::{CaptureRecord, ReadOptions, TimeUnit, read, read_with};
 use std::alloc::{AllocError, Global};
 use std::process::Abort;
 
-/// Section headers: little-endian and big-endian; of version 2; with another magic.
+/// Section headers: little-endian and big-endian; of version 2; with another magic number.
 const SECTION: &[u8] =
     b"\x0a\x0d\x0d\x0a\x1c\0\0\0M\x3c\x2b\x1a\x01\0\0\0\xff\xff\xff\xff\xff\xff\xff\xff\x1c\0\0\0";
 
@@ -18,8 +18,8 @@ const SECTION_2: &[u8] =
 const SECTION_ODD: &[u8] =
     b"\x0a\x0d\x0d\x0a\x1c\0\0\0N\x3c\x2b\x1a\x01\0\0\0\xff\xff\xff\xff\xff\xff\xff\xff\x1c\0\0\0";
 
-/// Interfaces: Ethernet in both orders; with a name and times in nanoseconds; with times in 1,024ths of a second; with a snap
-/// length of 14; raw IP.
+/// Interfaces: Ethernet in both orders; with a name and times in nanoseconds; with times in 1,024ths of a second;
+/// with a snap length of 14; raw IP.
 const ETHERNET: &[u8] = b"\x01\0\0\0\x14\0\0\0\x01\0\0\0\0\0\0\0\x14\0\0\0";
 
 const ETHERNET_BIG: &[u8] = b"\0\0\0\x01\0\0\0\x14\0\x01\0\0\0\0\0\0\0\0\0\x14";
@@ -34,7 +34,8 @@ const SNAP_14: &[u8] = b"\x01\0\0\0\x14\0\0\0\x01\0\0\0\x0e\0\0\0\x14\0\0\0";
 
 const RAW: &[u8] = b"\x01\0\0\0\x14\0\0\0e\0\0\0\0\0\0\0\x14\0\0\0";
 
-/// Enhanced packets of 14 bytes, 1,700,000,000 seconds and a microsecond after 1970: of interface 0 in both orders; of interface 1.
+/// Enhanced packets of 14 bytes, at 1,700,000,000 seconds and a microsecond after 1970: from interface 0 in both
+/// orders; from interface 1.
 const PACKET: &[u8] =
     b"\x06\0\0\00\0\0\0\0\0\0\0\x24\x0a\x06\0\x01\x40\x1e\x18\x0e\0\0\0\x0e\0\0\0abcdefghijklmn\0\00\0\0\0";
 
@@ -44,11 +45,11 @@ const PACKET_BIG: &[u8] =
 const PACKET_1: &[u8] =
     b"\x06\0\0\00\0\0\0\x01\0\0\0\x24\x0a\x06\0\x01\x40\x1e\x18\x0e\0\0\0\x0e\0\0\0abcdefghijklmn\0\00\0\0\0";
 
-/// The same, 1,700,000,000.999999999 seconds after 1970 where a tick is a nanosecond, with a comment.
+/// The same at 1,700,000,000.999999999 seconds after 1970, in ticks of a nanosecond, with a comment.
 const PACKET_NANOS: &[u8] =
     b"\x06\0\0\0\x3c\0\0\0\0\0\0\0\xfe\x9c\x97\x17\xff\xc9\xc4q\x0e\0\0\0\x0e\0\0\0abcdefghijklmn\0\0\x01\0\x04\0seen\0\0\0\0\x3c\0\0\0";
 
-/// The same, 14 bytes of 15; 13 of 13; 17 of 17, of which the block has 16; with another length at its end.
+/// The same: 14 bytes of 15; 13 of 13; 17 of 17, of which the block holds 16; with another length at the block's end.
 const SNAPPED: &[u8] =
     b"\x06\0\0\00\0\0\0\0\0\0\0\x24\x0a\x06\0\x01\x40\x1e\x18\x0e\0\0\0\x0f\0\0\0abcdefghijklmn\0\00\0\0\0";
 
@@ -61,12 +62,12 @@ const BEYOND: &[u8] =
 const ODD_END: &[u8] =
     b"\x06\0\0\00\0\0\0\0\0\0\0\0\0\0\0\0\0\0\0\x0e\0\0\0\x0e\0\0\0abcdefghijklmn\0\0\x2c\0\0\0";
 
-/// Simple packets of 14 bytes: of 14 on the wire, and of 15.
+/// Simple packets of 14 bytes, with a length of 14 and of 15 on the wire.
 const SIMPLE: &[u8] = b"\x03\0\0\0\x20\0\0\0\x0e\0\0\0abcdefghijklmn\0\0\x20\0\0\0";
 
 const SIMPLE_15: &[u8] = b"\x03\0\0\0\x20\0\0\0\x0f\0\0\0abcdefghijklmn\0\0\x20\0\0\0";
 
-/// A block that says names, and one of a type of its own.
+/// A name resolution block, and a custom block.
 const NAMES: &[u8] = b"\x04\0\0\0\x10\0\0\0\0\0\0\0\x10\0\0\0";
 
 const CUSTOM: &[u8] = b"\xad\x0b\0\x40\x10\0\0\0own\x21\x10\0\0\0";
@@ -74,11 +75,11 @@ const CUSTOM: &[u8] = b"\xad\x0b\0\x40\x10\0\0\0own\x21\x10\0\0\0";
 /// Parts of a file.
 type Parts = &'static [&'static [u8]];
 
-/// How many frames are read, and how many records are left out as truncated, snapped, long and short; or a refusal's
-/// number and its record.
+/// The number of frames read, and of records left out as truncated, snapped, long and short; or a refusal's number
+/// and record.
 type Answer = Result<(usize, [u64; 4]), (u8, u64)>;
 
-/// Files that are read without options: sections in both orders, blocks that are skipped, simple packets.
+/// Files that are read without options: sections in both orders, skipped blocks, simple packets.
 const READ: &[(Parts, usize)] = &[
     (&[SECTION], 0),
     (&[SECTION, ETHERNET, PACKET], 1),
@@ -171,7 +172,7 @@ fn joined(alloc: Global, parts: &[&[u8]]) -> Result<Vec<u8>, AllocError> {
     Ok(bytes)
 }
 
-/// So is answered of the file of these parts.
+/// The result for the file with these parts.
 fn is_answered<R: Abort>(rt: &R, alloc: Global, parts: Parts, skip: bool, wanted: Answer) {
     let bytes = joined(alloc, parts).expect(rt, "memory");
     let told = answer(alloc, bytes.as_slice(), skip);

@@ -1,4 +1,4 @@
-//! Captures that are refused, and which refusal comes first.
+//! Captures that are refused, and the order of refusals.
 
 use crate::tests::wanted::same;
 use capture::{CaptureError, CaptureRecord, TimeUnit, read, write};
@@ -11,15 +11,15 @@ const FRAME: &[u8] = b"abcdefghijklmn";
 /// Its first 13 bytes.
 const FRAME_13: &[u8] = b"abcdefghijklm";
 
-/// Headers of version 2.4 and Ethernet: of microseconds in each order, and of nanoseconds.
+/// Headers of version 2.4 for Ethernet: in microseconds in each order, and in nanoseconds.
 const LITTLE: &[u8] = b"\xd4\xc3\xb2\xa1\x02\x00\x04\x00\0\0\0\0\0\0\0\0\xff\xff\0\0\x01\0\0\0";
 
 const BIG: &[u8] = b"\xa1\xb2\xc3\xd4\x00\x02\x00\x04\0\0\0\0\0\0\0\0\0\0\xff\xff\0\0\0\x01";
 
 const BIG_NANOS: &[u8] = b"\xa1\xb2\x3c\x4d\x00\x02\x00\x04\0\0\0\0\0\0\0\0\0\0\xff\xff\0\0\0\x01";
 
-/// Headers that are refused: of a pcapng file that ends within it; of version 2.3; of raw IP; of Ethernet with checksums; of version 2.3 and
-/// raw IP.
+/// Headers that are refused: of a pcapng file that ends within it; of version 2.3; of raw IP; of Ethernet with
+/// checksums; of version 2.3 and raw IP.
 const NEXT: &[u8] =
     b"\x0a\x0d\x0d\x0a\x84\0\0\0\x4d\x3c\x2b\x1a\x01\0\0\0\xff\xff\xff\xff\xff\xff\xff\xff";
 
@@ -31,7 +31,7 @@ const CHECKED: &[u8] = b"\xd4\xc3\xb2\xa1\x02\x00\x04\x00\0\0\0\0\0\0\0\0\xff\xf
 
 const OLD_RAW: &[u8] = b"\xd4\xc3\xb2\xa1\x02\x00\x03\x00\0\0\0\0\0\0\0\0\xff\xff\0\0\x65\0\0\0";
 
-/// Headers of records of 1 second and 2 parts of one: 14 bytes of 14, in each order.
+/// Headers of records at 1 second and a fraction of 2: 14 bytes of 14, in each order.
 const WHOLE: &[u8] = b"\x01\0\0\0\x02\0\0\0\x0e\0\0\0\x0e\0\0\0";
 
 const WHOLE_BIG: &[u8] = b"\0\0\0\x01\0\0\0\x02\0\0\0\x0e\0\0\0\x0e";
@@ -47,7 +47,7 @@ const THIRTEEN_SHORT: &[u8] = b"\x01\0\0\0\x02\0\0\0\x0d\0\0\0\x0e\0\0\0";
 
 const FIFTEEN_SHORT: &[u8] = b"\x01\0\0\0\x02\0\0\0\x0f\0\0\0\x10\0\0\0";
 
-/// A refusal's number and that of its record, or 0 and how many records were read.
+/// The numbers of a refusal and of its record, or 0 and the number of records read.
 type Answer = (u8, u64);
 
 fn answer(alloc: Global, bytes: &[u8]) -> Answer {
@@ -57,8 +57,8 @@ fn answer(alloc: Global, bytes: &[u8]) -> Answer {
     }
 }
 
-/// Parts of a file, and what is answered. Of a header's faults the lower number comes first, and so in a record; an earlier
-/// record comes before a later one. In another order of bytes lengths are too great.
+/// Parts of a file, and the result. The lower number of a header's or a record's faults counts, and an earlier record
+/// comes before a later one. In the wrong byte order, lengths are too great.
 const FILES: &[(&[&[u8]], Answer)] = &[
     (&[], (91, 0)),
     (&[LITTLE], (0, 0)),
@@ -88,7 +88,7 @@ fn joined(alloc: Global, parts: &[&[u8]]) -> Result<Vec<u8>, AllocError> {
     Ok(bytes)
 }
 
-/// So is answered of the file of these parts.
+/// The result for the file with these parts.
 fn is_answered<R: Abort>(rt: &R, alloc: Global, parts: &[&[u8]], wanted: Answer) {
     let bytes = joined(alloc, parts).expect(rt, "memory");
     same(
@@ -105,7 +105,7 @@ fn the_first_fault_is_named(rt: HostRuntime) {
     }
 }
 
-/// Parts of a file of one record, of 1 second and 2 parts of one: the unit of those, and the length on the wire.
+/// Parts of a file of one record at 1 second and a fraction of 2: its time unit, and the length on the wire.
 const RECORDS: &[(&[&[u8]], TimeUnit, u32)] = &[
     (&[LITTLE, WHOLE, FRAME], TimeUnit::Micros, 14),
     (&[BIG, WHOLE_BIG, FRAME], TimeUnit::Micros, 14),
@@ -119,7 +119,7 @@ fn is_record<R: Abort>(rt: &R, found: &CaptureRecord<'_>, wire_len: u32) {
     same(rt, found.frame(), FRAME);
 }
 
-/// The file of these parts has that record.
+/// The file with these parts has that record.
 fn has_record<R: Abort>(rt: &R, alloc: Global, (parts, unit, wire_len): (&[&[u8]], TimeUnit, u32)) {
     let bytes = joined(alloc, parts).expect(rt, "memory");
     let capture = read(alloc, bytes.as_slice()).expect(rt, "a capture");
@@ -136,7 +136,7 @@ fn a_record_has_its_time_and_its_lengths(rt: HostRuntime) {
     }
 }
 
-/// Each refusal, and its line: its number, its record and its words.
+/// Each refusal, with its line: number, record and words.
 const REFUSED: &[CaptureError] = &[
     CaptureError::NotCapture,
     CaptureError::LinkType,
@@ -171,7 +171,7 @@ fn three(alloc: Global) -> Result<Vec<u8>, CaptureError> {
     write(alloc, &records)
 }
 
-/// Lengths from one to below another, and what is answered of beginnings so long.
+/// The result for prefixes of a file, by length: from one length to below another.
 const BEGINNINGS: [(usize, usize, Answer); 8] = [
     (0, 24, (91, 0)),
     (24, 25, (0, 0)),
@@ -183,7 +183,7 @@ const BEGINNINGS: [(usize, usize, Answer); 8] = [
     (15_146, 15_147, (0, 3)),
 ];
 
-/// So is answered of its beginnings from one length to below another.
+/// The result for its prefixes from one length to below another.
 fn are_answered<R: Abort>(
     rt: &R,
     alloc: Global,
@@ -205,7 +205,7 @@ fn each_beginning_is_read_or_named(rt: HostRuntime) {
     }
 }
 
-/// Bytes of the header from one to below another, and what is answered where a bit of one is flipped.
+/// The result if one bit of the header is flipped, by byte: from one byte to below another.
 const PLACES: [(usize, usize, Answer); 3] = [(0, 8, (91, 0)), (8, 20, (0, 3)), (20, 24, (92, 0))];
 
 fn flip(bytes: &mut [u8], place: usize, bit: u8) {
@@ -214,7 +214,7 @@ fn flip(bytes: &mut [u8], place: usize, bit: u8) {
     }
 }
 
-/// So is answered with each bit of these bytes flipped. They are left as they were.
+/// The result with each bit of these bytes flipped. Restores the bytes.
 fn flipped_are_answered<R: Abort>(
     rt: &R,
     alloc: Global,

@@ -1,17 +1,17 @@
-//! Rows of scripts, and what no clause says: the words of refusals, and that memory suffices.
+//! Rows of scripts, and facts without a clause: the words of refusals, and that memory suffices.
 
 use crate::tests::wanted::same;
 use std::alloc::{AllocError, Global};
 use std::process::Abort;
 use wire_script::{Script, ScriptError, WireFrame, parse, print};
 
-// The number and the line of a refusal.
+// The number and line of a refusal.
 fn refusal(alloc: Global, text: &str) -> Option<(u8, Option<u64>)> {
     let refused = parse(alloc, text.as_bytes()).err()?;
     Some((refused.number(), refused.line()))
 }
 
-// How many frames a script has.
+// The number of frames in a script.
 fn frames_in(alloc: Global, text: &str) -> Result<usize, ScriptError> {
     let script = parse(alloc, text.as_bytes())?;
     Ok(script.frames().len())
@@ -82,7 +82,7 @@ fn the_first_faulty_line_is_refused(rt: HostRuntime) {
     }
 }
 
-/// Scripts, and what is printed of their frames.
+/// Scripts, and the printed text of their frames.
 const PRINTED: &[(&str, &str)] = &[
     ("", ""),
     ("\n\n# 0 0 fill 60 00\n#", ""),
@@ -116,7 +116,7 @@ fn frames_are_read_and_printed(rt: HostRuntime) {
     }
 }
 
-// A text, and then another over and over.
+// A text, followed by another repeated `times` times.
 fn repeated(alloc: Global, begin: &str, more: &str, times: usize) -> Result<String, AllocError> {
     let mut text = String::from_str(alloc, begin)?;
     for _ in 0..times {
@@ -125,7 +125,7 @@ fn repeated(alloc: Global, begin: &str, more: &str, times: usize) -> Result<Stri
     Ok(text)
 }
 
-/// What is repeated after `0 0 `, how often, and the refusal if it is no frame.
+/// The text repeated after `0 0 `, its count, and the refusal if the line is no frame.
 const LENGTHS: &[(&str, usize, Option<u8>)] = &[
     ("a5", 13, Some(75)),
     ("a5", 14, None),
@@ -146,7 +146,7 @@ fn is_length<R: Abort>(rt: &R, alloc: Global, (more, times, number): (&str, usiz
     );
 }
 
-/// Scripts of one frame that is filled, and its length.
+/// Scripts of one filled frame, and its length.
 const FILLED: &[(&str, usize)] = &[("1 7 fill 14 a5", 14), ("1 7 fill 15000 a5", 15_000)];
 
 fn is_filled<R: Abort>(rt: &R, alloc: Global, text: &str, len: usize) {
@@ -193,10 +193,10 @@ fn a_script_has_at_most_a_million_frames(rt: HostRuntime) {
     same(&rt, refused, Some((76, Some(1_000_002))));
 }
 
-/// A script, each beginning of which is read.
+/// A script; each prefix of it is read.
 const WHOLE: &[u8] = b"0 0 fill 60 01\n1 7 000102030405060708090a0b0c0d\n0 3 fill 15000 ff\n";
 
-/// A beginning of a script that has so many whole lines is read, or refused at the line after them.
+/// A prefix of a script with `whole` complete lines is read, or refused at the line after them.
 fn is_read_or_refused<R: Abort>(rt: &R, alloc: Global, front: &[u8], whole: usize) {
     let next = whole.saturating_add(1);
     match parse(alloc, front) {
@@ -263,7 +263,7 @@ fn refusals_have_words(rt: HostRuntime) {
     }
 }
 
-// With any one allocation refused, as `rt try --test --fail-alloc 1..` does, this passes too.
+// Also passes if any one allocation is refused, as by `rt try --test --fail-alloc 1..`.
 #[test]
 fn want_of_memory_is_77_and_changes_no_answer(rt: HostRuntime) {
     let read = parse(

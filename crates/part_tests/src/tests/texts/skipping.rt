@@ -1,4 +1,4 @@
-//! Captures that are read with options: faulty records left out and counted, and a limit.
+//! Captures read with options: faulty records left out and counted, and a limit.
 
 use crate::tests::wanted::same;
 use capture::{ReadOptions, read_with};
@@ -8,7 +8,7 @@ use std::process::Abort;
 /// A little-endian header in microseconds, version 2.4, Ethernet.
 const HEADER: &[u8] = b"\xd4\xc3\xb2\xa1\x02\x00\x04\x00\0\0\0\0\0\0\0\0\xff\xff\0\0\x01\0\0\0";
 
-/// Records of 14 bytes: whole; of 15 on the wire; of 13 bytes; and one whose last byte is missing.
+/// Records of 14 bytes: intact; of 15 on the wire; of 13 bytes; and one whose last byte is missing.
 const WHOLE: &[u8] = b"\x01\0\0\0\x02\0\0\0\x0e\0\0\0\x0e\0\0\0abcdefghijklmn";
 
 const SNAPPED: &[u8] = b"\x01\0\0\0\x02\0\0\0\x0e\0\0\0\x0f\0\0\0abcdefghijklmn";
@@ -26,11 +26,11 @@ type Parts = &'static [&'static [u8]];
 /// Whether faults are skipped, and the limit.
 type Options = (bool, Option<u32>);
 
-/// How many frames are read, and how many records are left out as truncated, snapped, long and short; or a refusal's
-/// number and its record.
+/// The number of frames read, and of records left out as truncated, snapped, long and short; or a refusal's number
+/// and record.
 type Answer = Result<(usize, [u64; 4]), (u8, u64)>;
 
-/// With `skip` a file of a header and these parts is read to its end, and with a limit up to its last frame.
+/// With `skip`, a file of a header and these parts is read to its end; with a limit, up to its last frame.
 const ROWS: &[(Parts, Options, Answer)] = &[
     (&[], (true, None), Ok((0, [0, 0, 0, 0]))),
     (&[WHOLE, CUT], (true, None), Ok((1, [1, 0, 0, 0]))),

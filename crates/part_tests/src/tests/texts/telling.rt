@@ -1,4 +1,4 @@
-//! What a message says of a file that is refused.
+//! Details of a refused file.
 
 use crate::tests::wanted::same;
 use capture::{Fault, fault_details, is_gzip, link_type_name, link_type_of};
@@ -25,7 +25,7 @@ const CUT: &[u8] = b"\x01\0\0\0\x02\0\0\0\x0e\0\0\0\x0e\0\0\0abcdefghijklm";
 
 const LONG: &[u8] = b"\x01\0\0\0\x02\0\0\0\x99\x3a\0\0\x99\x3a\0\0";
 
-/// A fault, the record's captured length and its length on the wire, and the limit that is broken.
+/// A fault, the record's captured length and length on the wire, and the broken limit.
 type Details = (Fault, Option<(u32, u32)>, Option<usize>);
 
 /// The details of record `number`.
@@ -35,7 +35,7 @@ fn details(alloc: Global, bytes: &[u8], number: u64) -> Option<Details> {
     Some((found.fault, lengths, found.fault.limit()))
 }
 
-/// A header, and records whole, snapped, of 15,001 bytes, short and cut.
+/// A header, and records: intact, snapped, of 15,001 bytes, short and truncated.
 fn faulty(alloc: Global) -> Result<Vec<u8>, AllocError> {
     let frame = [0xa5u8; 15_001];
     let parts: [&[u8]; 7] = [ETHERNET, WHOLE, SNAPPED, LONG, &frame, SHORT, CUT];

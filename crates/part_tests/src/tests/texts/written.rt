@@ -5,8 +5,8 @@ use capture::{CaptureRecord, TimeUnit, read, write};
 use std::alloc::Global;
 use std::process::Abort;
 
-/// Magic; versions 2 and 4; zone and accuracy 0; snap length 65,535; Ethernet. Then seconds and microseconds, twice the length
-/// of 14, and the frame.
+/// Magic number; versions 2 and 4; zone and accuracy 0; snap length 65,535; Ethernet. Then seconds and microseconds,
+/// twice the length of 14, and the frame.
 const WRITTEN: &[u8] =
     b"\xd4\xc3\xb2\xa1\x02\0\x04\0\0\0\0\0\0\0\0\0\xff\xff\0\0\x01\0\0\0\0\xf1\x53\x65\x3f\x42\x0f\0\x0e\0\0\0\x0e\0\0\0\xab\xab\xab\xab\xab\xab\xab\xab\xab\xab\xab\xab\xab\xab";
 
@@ -18,7 +18,7 @@ fn a_capture_is_written_as_the_format_says(rt: HostRuntime) {
     same(&rt, written.as_slice(), WRITTEN);
 }
 
-// A capture that was written is read, or there is no memory.
+// A written capture is read back, or memory is refused.
 fn is_read<R: Abort>(rt: &R, alloc: Global, written: &[u8]) {
     match read(alloc, written) {
         Ok(capture) => {
@@ -29,7 +29,7 @@ fn is_read<R: Abort>(rt: &R, alloc: Global, written: &[u8]) {
     }
 }
 
-// With any one allocation refused, as `rt try --test --fail-alloc 1..` does, this passes too.
+// Also passes if any one allocation is refused, as by `rt try --test --fail-alloc 1..`.
 #[test]
 fn want_of_memory_is_97_and_changes_no_answer(rt: HostRuntime) {
     let frame = [7u8; 60];
