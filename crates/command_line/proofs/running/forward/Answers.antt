@@ -9,14 +9,14 @@ use Rattle.command_line.proofs.running.forward.Goals as goal
 pub returns-in-Ok-clause-ends : goal.returns-in-Ok-clause-ends
 returns-in-Ok-clause-ends g c = λ said shown files says.
     let held = c.in-Ok.ensures said shown files says in
-    forward-of c.args.config.now c.args.printing c.as_slice-2.result.now files.wires c.as_slice.result.now files.sources _ _ _ _
-    (c.as_slice-2.ensures.value ∙ held.1) (c.as_slice.ensures.value ∙ held.0)
+    forward-of c.args.config.now c.args.printing c.as_slice-in-Ok.result.now files.wires c.as_slice.result.now files.sources _ _ _ _
+    (c.as_slice-in-Ok.ensures.value ∙ held.1) (c.as_slice.ensures.value ∙ held.0)
     (record { script = c.answer.ensures.forward; captured = c.answer.ensures.captured; refused = c.answer.ensures.refused })
 
 pub returns-in-Ok-clause-screen : goal.returns-in-Ok-clause-screen
 returns-in-Ok-clause-screen g c = λ said shown files says unshown whole.
     let held = c.in-Ok.ensures said shown files says in
-    c.answer.ensures.screen unshown (subst (λ (ws : List PortFile). streamed_port ws ≡ None) (sym (c.as_slice-2.ensures.value ∙ held.1)) whole)
+    c.answer.ensures.screen unshown (subst (λ (ws : List PortFile). streamed_port ws ≡ None) (sym (c.as_slice-in-Ok.ensures.value ∙ held.1)) whole)
 
 pub returns-in-Ok-clause-unread : goal.returns-in-Ok-clause-unread
 returns-in-Ok-clause-unread g c = λ said shown files says some.
