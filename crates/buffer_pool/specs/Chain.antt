@@ -1,4 +1,4 @@
--- Buffers on the heap: a single one, or those of a packet one behind another.
+-- Buffers on the heap: a single one, or those of a packet, one after another.
 use Rattle.std.specs.Prelude.{◌≡◌, ◌<◌, ◌≤◌, List, [], ◌∷◌, length, take}
 use Rattle.limits.specs.declared.profile.TheConstants.{BUFFER_BYTES}
 use Rattle.buffer_pool.specs.declared.chain.Chain.{Chain}

@@ -102,9 +102,9 @@ pub record SaysDecode (words : List Text) (form : Form) (digits : Text) : Type 0
   pub words_are : words ≡ codes "decode" ∷ ring_word form ∷ format_word form ∷ digits ∷ []
   pub no_option : slice_index digits 0 ≢ 45
 
--- the words are `replay` and its options in this order: `--off` stands where the queues begin disabled, `--head` where
--- they report by a head word, `--lists` where each list has fresh queues, `--json` where objects are printed, `--registers` where registers are shown, and `--picture` or
--- `--picture=last` where queues are drawn, which are lines and stand with no objects
+-- The words are `replay` and its options in this order: `--off` if the queues begin disabled, `--head` if they report by a
+-- head word, `--lists` if each list has new queues, `--json` if objects are printed, `--registers` if registers are shown,
+-- and `--picture` or `--picture=last` if queues are drawn, which excludes `--json`.
 pub record SaysReplay (words : List Text) (plan : QueuePlan) : Type 0 where
   pub ring : List Text
   pub pairs : List Text
@@ -201,7 +201,7 @@ IsReplayOf (Replay given) plan = given ≡ plan
 IsReplayOf request plan = ⊥
 
 -- a property of what the words ask for, by its kind: a request of `commands`, a forwarding, or a request for captures,
--- for drawn lists, or for lists that together cover all that a queue can do
+-- for drawn lists, or for covering lists
 abbrev pub HoldsBy : (Request → Type 0) → (Config → Printing → Type 0) → (CaptureRequest → Type 0) → (ScheduleRequest → Type 0) → (CoverRequest → Type 0) → Asked → Type 0
 HoldsBy P F C S V (asked.Request request) = P request
 HoldsBy P F C S V (asked.Forward config printing) = F config printing
@@ -225,7 +225,7 @@ IsCapture a request = HoldsBy (λ r. ⊥) (λ config printing. ⊥) (λ given. g
 abbrev pub IsSchedules : Asked → ScheduleRequest → Type 0
 IsSchedules a request = HoldsBy (λ r. ⊥) (λ config printing. ⊥) (λ r. ⊥) (λ given. given ≡ request) (λ r. ⊥) a
 
--- it is this request of lists that together meet all that a queue can do
+-- it is this request for covering lists
 abbrev pub IsCover : Asked → CoverRequest → Type 0
 IsCover a request = HoldsBy (λ r. ⊥) (λ config printing. ⊥) (λ r. ⊥) (λ r. ⊥) (λ given. given ≡ request) a
 

@@ -1,4 +1,4 @@
--- The layout of a wire's frames in one block of bytes: one behind another, with the end of each.
+-- The layout of a wire's frames in one block of bytes: one after another, with the end of each.
 use Rattle.std.specs.Prelude.{ℕ, ◌-◌, ◌≤◌, List, [], ◌∷◌, take, drop}
 use Rattle.ring_model.specs.shared.Frames.{Bytes}
 

@@ -37,7 +37,8 @@ pub record CanDrive (from to : TableId) (d : Driving) : Type 0 where
   pub tx_live : is_live (transmit.driver_state d.tx.end) ≡ true
   pub waiting : All (IsTaken from.slots) d.packets
 
--- Both lists of frames grew, by those that were taken and those that were posted. Those that waited, followed by the touched ones of those taken, are those posted, followed by those that wait now
+-- Both lists of frames grew: one by the frames taken, one by the frames posted. The frames that waited before, followed by
+-- the touched frames that were taken, are the frames posted, followed by those that wait now.
 pub record Moved (old new : Driving) : Type 0 where
   pub taken : List Bytes
   pub posted : List Bytes
@@ -72,7 +73,7 @@ pub record OnlyReceived (old new : Driving) : Type 0 where
   pub receiving : Received count old.rx old.stash old.packets new.rx new.stash new.packets
   pub unsent : new.tx ≡ old.tx
 
--- refused before the receive batch, or behind it
+-- refused before the receive batch, or after it
 abbrev pub HeldBack : Driving → Driving → Type 0
 HeldBack old new = (new ≡ old) ⊎ OnlyReceived old new
 

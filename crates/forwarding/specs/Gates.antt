@@ -13,7 +13,7 @@ MayRefuse answers gate who = (event : Event) × answers gate who event false
 abbrev pub CanRefuse : {G : Type 0} → (G → Who → Event → Bool → Type 0) → G → Type 0
 CanRefuse answers gate = (who : Who) × MayRefuse answers gate who
 
--- what a flow may be refused for in its turns: want of memory, or a gate that can refuse
+-- why a flow's turn may be refused: memory, or a gate that can refuse
 abbrev pub Met : {G : Type 0} → (G → Who → Event → Bool → Type 0) → G → ForwardError → Type 0
 Met answers gate Memory = Unit {0}
 Met answers gate Gate = CanRefuse answers gate

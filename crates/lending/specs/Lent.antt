@@ -29,6 +29,7 @@ Exchanged held before new after = (rest : List ℕ) → IsPermutation held (befo
 abbrev pub GivenBack : List ℕ → List ℕ → List ℕ → Type 0
 GivenBack held numbers new = (rest : List ℕ) → IsPermutation held (numbers ++ rest) → IsPermutation new rest
 
--- The same numbers, each as often, said by weights, as the pool's rule says it: however they are weighed, both weigh the same
+-- The same numbers, each equally often. It is stated by weights, as in the pool's rule: for every weighing, both lists have
+-- the same total.
 abbrev pub SameNumbers : List ℕ → List ℕ → Type 0
 SameNumbers xs ys = (h : ℕ → ℕ) → total h xs ≡ total h ys

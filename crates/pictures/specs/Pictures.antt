@@ -65,7 +65,7 @@ word_words side Driver word = codes "any"
 word_words side Ring word = flag_words (says_done side word) (says_eop side word) (says_rs side word)
 word_words side Controller word = flag_words (says_done side word) (says_eop side word) (says_rs side word)
 
--- a name behind a tab, where this stands at the place
+-- a name after a tab, if this is at the place
 abbrev pub mark : ℕ → ℕ → List ℕ → List ℕ
 mark at place name = if at == place then 9 ∷ name else []
 
@@ -73,7 +73,7 @@ abbrev pub marks : Wrapped ℕ → ℕ → List ℕ
 marks w place = mark w.head place (codes "head") ++ (mark w.tail place (codes "tail") ++ (mark w.fill place (codes "fill")
     ++ (mark w.next place (codes "next") ++ (mark w.serve place (codes "use") ++ mark w.known place (codes "known")))))
 
--- a place's line up to what stands there
+-- a place's line up to the names of what is there
 abbrev pub columns : Side → Wrapped ℕ → ℕ → List ℕ
 columns side w place = let owner = told_owner w place in
     decimal place ++ (9 ∷ (number_or_dash (item_of owner (age_at w place)) ++ (9 ∷ (owner_word owner
@@ -86,11 +86,11 @@ line side w place = columns side w place ++ (marks w place ++ 10 ∷ [])
 abbrev pub place_before : ℕ → ℕ → ℕ
 place_before n place = if place == 0 then n - 1 else (place - 1)
 
--- what stands here, at the place behind or at the place before
+-- whether anything is here, at the place after, or at the place before
 abbrev pub is_near : ℕ → ℕ → ℕ → Bool
 is_near n place at = (place == at) || ((place_next n place == at) || (place_before n place == at))
 
--- all places of a ring of 8; of a longer one those at which something stands, with the place before and the place behind
+-- all places of a ring of 8; of a longer ring, those with something at them, and the places before and after these
 abbrev pub is_shown : Wrapped ℕ → ℕ → Bool
 is_shown w place = nat_lt w.size 9 || (is_near w.size place w.head || (is_near w.size place w.tail || (is_near w.size place w.fill
     || (is_near w.size place w.next || (is_near w.size place w.serve || is_near w.size place w.known)))))
@@ -103,7 +103,7 @@ begins_fold w (suc before) = is_shown w before
 abbrev pub place_text : Side → Wrapped ℕ → ℕ → List ℕ
 place_text side w place = if is_shown w place then line side w place else (if begins_fold w place then codes "..\n" else [])
 
--- the first so many places
+-- the first places, as many as given
 abbrev pub places_text : Side → Wrapped ℕ → ℕ → List ℕ
 places_text side w zero = []
 places_text side w (suc count) = places_text side w count ++ place_text side w count

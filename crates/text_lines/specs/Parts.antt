@@ -3,7 +3,7 @@ use Rattle.std.specs.Prelude.{ℕ, ◌==◌, Bool, false, not, List, [], ◌∷�
 use Rattle.std.specs.Borrow.{Bor}
 use Rattle.std.specs.List.{slice_split}
 
--- what stands before, between and after the bytes that are the separator
+-- the parts before, between and after the bytes that equal the separator
 abbrev pub parts : ℕ → List ℕ → List (List ℕ)
 parts separator bytes = slice_split (λ b. b == separator) bytes
 
