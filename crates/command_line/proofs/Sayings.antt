@@ -137,33 +137,48 @@ cover-said saying given input status old new is ends =
 -- ---- what is not shown
 
 -- the words ask to forward, with no progress and no capture on standard output
-pub record IsUnseen (words : List Text) (shown : Printing) : Type 0 where
+pub record IsUnseen (words : List Text) (given : Config) (shown : Printing) : Type 0 where
   pub config : Config
   pub printing : Printing
   pub files : FileOptions
   pub says : SaysForward words config printing files
   pub no_progress : shown.progress ≡ false
   pub no_stream : streamed_port files.wires ≡ None
+  pub no_turns : given.turns ≡ 0
 
-shows-nothing : (progress : Bool) (stream : Option ℕ) → forward_shows progress stream ≡ false → (progress ≡ false) × (stream ≡ None)
-shows-nothing true stream e = let bad : ⊥ = cc e in absurd bad
-shows-nothing false (Some port) e = let bad : ⊥ = cc e in absurd bad
-shows-nothing false None e = (refl, refl)
+record ShowsNothing (progress : Bool) (stream : Option ℕ) (turns : ℕ) : Type 0 where
+  no_progress : progress ≡ false
+  no_stream : stream ≡ None
+  no_turns : turns ≡ 0
 
-unseen : (words : List Text) (config : Config) (printing shown : Printing) (files : FileOptions) → SaysForward words config printing files → shown ≡ printing
-    → forward_shows printing.progress (streamed_port files.wires) ≡ false → IsUnseen words shown
-unseen words config printing shown files says same dark =
-    let no = shows-nothing printing.progress (streamed_port files.wires) dark in
-    record { config = config; printing = printing; files = files; says = says; no_progress = ap (λ (p : Printing). p.progress) same ∙ no.0; no_stream = no.1 }
+shows-nothing : (progress : Bool) (stream : Option ℕ) (turns : ℕ) → forward_shows progress stream turns ≡ false → ShowsNothing progress stream turns
+shows-nothing true stream turns e = let bad : ⊥ = cc e in absurd bad
+shows-nothing false (Some port) turns e = let bad : ⊥ = cc e in absurd bad
+shows-nothing false None (suc n) e = let bad : ⊥ = cc e in absurd bad
+shows-nothing false None zero e = record { no_progress = refl; no_stream = refl; no_turns = refl }
+
+unseen : (words : List Text) (config given : Config) (printing shown : Printing) (files : FileOptions) → SaysForward words config printing files → given ≡ config → shown ≡ printing
+    → forward_shows printing.progress (streamed_port files.wires) config.turns ≡ false → IsUnseen words given shown
+unseen words config given printing shown files says one same dark =
+    let no = shows-nothing printing.progress (streamed_port files.wires) config.turns dark in
+    record {
+      config = config;
+      printing = printing;
+      files = files;
+      says = says;
+      no_progress = ap (λ (p : Printing). p.progress) same ∙ no.no_progress;
+      no_stream = no.no_stream;
+      no_turns = ap (λ (c : Config). c.turns) one ∙ no.no_turns;
+    }
 
 -- the words say what was asked for, if they are a command line of the program; so a forwarding that is asked for isn't shown, and no
 -- lists that cover what a queue can do are asked for
 pub unshown-forward : (words : List Text) (a : Asked) (given : Config) (shown : Printing) → a ≡ asked.Forward given shown
-    → ((saying : Saying) → Says words saying → IsAsked saying a) → (IsMisuse words → ⊥) → IsUnshown words → IsUnseen words shown
+    → ((saying : Saying) → Says words saying → IsAsked saying a) → (IsMisuse words → ⊥) → IsUnshown words → IsUnseen words given shown
 unshown-forward words a given shown is said misuse (is_misuse wrong) = absurd (misuse wrong)
 unshown-forward words a given shown is said misuse (asks saying says dark) =
-    each (λ s. Says words s → IsAsked s (asked.Forward given shown) → is_shown s ≡ false → IsUnseen words shown) (λ d says is dark. absurd is) (λ f d says is dark. absurd is)
-    (λ p says is dark. absurd is) (λ config printing files says is dark. unseen words config printing shown files says is.1 dark) (λ p q says is dark. absurd is)
+    each (λ s. Says words s → IsAsked s (asked.Forward given shown) → is_shown s ≡ false → IsUnseen words given shown) (λ d says is dark. absurd is) (λ f d says is dark. absurd is)
+    (λ p says is dark. absurd is) (λ config printing files says is dark. unseen words config given printing shown files says is.0 is.1 dark) (λ p q says is dark. absurd is)
     (λ p says is dark. absurd is) (λ r says is dark. absurd is) (λ r says is dark. absurd is) saying says (subst (IsAsked saying) is (said saying says)) dark
 
 pub unshown-cover : (words : List Text) (a : Asked) (given : CoverRequest) → a ≡ asked.Cover given

@@ -1,6 +1,6 @@
 -- The meaning of a command line with any command: its words, the values that clap reads, the request, and how its run
 -- ends.
-use Rattle.std.specs.Prelude.{◌≡◌, ℕ, Bool, true, false, List, Option, Some, None, codes}
+use Rattle.std.specs.Prelude.{◌≡◌, ℕ, zero, suc, Bool, true, false, List, Option, Some, None, codes}
 use Rattle.clap.specs.Words.{Row, Text}
 use Rattle.forward_command.specs.Meanings.{capture_meant, lines_meant}
 use Rattle.forward_command.specs.declared.piped.request.CaptureRequest.TheVariants.{FromCapture, ToCapture}
@@ -89,19 +89,20 @@ EndsSaid (to_capture port) input status old new = (text : List ℕ) → input �
 EndsSaid (schedules request) input status old new = EndsSchedules request status old new
 EndsSaid (cover request) input status old new = EndsCover request status old new
 
--- besides refusals, a forwarding writes its progress to standard error, and its counts if a capture goes to standard
--- output
-abbrev pub forward_shows : Bool → Option ℕ → Bool
-forward_shows true stream = true
-forward_shows false (Some port) = true
-forward_shows false None = false
+-- besides refusals, a forwarding writes its progress to standard error, its counts if a capture goes to standard output,
+-- and the flows that `--turns` cut
+abbrev pub forward_shows : Bool → Option ℕ → ℕ → Bool
+forward_shows true stream turns = true
+forward_shows false (Some port) turns = true
+forward_shows false None zero = false
+forward_shows false None (suc n) = true
 
--- so do `forward --progress`, `forward --wire-capture P=-` and `schedules --cover`
+-- `forward --progress`, `forward --wire-capture P=-`, `forward --turns` and `schedules --cover` write to it
 abbrev pub is_shown : Saying → Bool
 is_shown (once digits) = false
 is_shown (decode form digits) = false
 is_shown (replay plan) = false
-is_shown (forward config printing files) = forward_shows printing.progress (streamed_port files.wires)
+is_shown (forward config printing files) = forward_shows printing.progress (streamed_port files.wires) config.turns
 is_shown (from_capture port queue) = false
 is_shown (to_capture port) = false
 is_shown (schedules request) = false

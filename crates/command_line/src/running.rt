@@ -29,6 +29,9 @@ use std::time::Clock;
 /// The exit status of a command line that is not valid.
 pub const MISUSED: u8 = 2;
 
+/// The option that explains refusals. On a terminal, they are explained without it.
+const EXPLAIN: &str = "--explain";
+
 /// Runs the program on the words after its name, and returns its exit status.
 ///
 /// Results and help go to `output`, with status 0. A refusal goes to `faults` as one line, `refused` with its number
@@ -40,6 +43,9 @@ pub const MISUSED: u8 = 2;
 /// `/dev/stdin`. The frames that leave a port also go to the files of `--wire-capture`; if one is standard output, its
 /// capture replaces the page on `output`, and the counts go to `screen`. `screen` is a second handle to standard error,
 /// where `forward --progress` and `schedules --cover` show their progress.
+///
+/// With the word `--explain`, or if `screen` is a terminal, a second line on `faults` explains a refusal, and
+/// `forward --turns` names on `screen` the flows that were cut before all their frames were offered.
 pub fn run<
     R: Threads + Wait + Clock + Sync + Files,
     I: Read,
@@ -66,22 +72,28 @@ pub fn run<
     ensures unread { (config : Config) (printing : Printing) (files : FileOptions) → SaysForward (map string_bytes words.now) config printing files
         → files.sources ≢ [] → input.new ≡ input.old }
 {
+    let explain = screen.is_terminal() || says_explain(words);
     match asked_of(alloc, words) {
-        Ok(Asked::Request(request)) => answer(rt, alloc, request, input, output, faults),
+        Ok(Asked::Request(request)) => answer(rt, alloc, request, input, output, faults, explain),
         Ok(Asked::Forward { config, printing }) => forward(
-            rt, alloc, words, &config, printing, input, output, faults, screen,
+            rt, alloc, words, &config, printing, input, output, faults, screen, explain,
         ),
         Ok(Asked::Capture(request)) => {
-            forward_command::piped::answer(alloc, request, input, output, faults)
+            forward_command::piped::answer(alloc, request, input, output, faults, explain)
         }
         Ok(Asked::Schedules(request)) => {
-            schedule_command::answer(alloc, &request, output, faults)
+            schedule_command::answer(alloc, &request, output, faults, explain)
         }
         Ok(Asked::Cover(request)) => {
-            cover_command::answer(alloc, &request, output, faults, screen)
+            cover_command::answer(alloc, &request, output, faults, screen, explain)
         }
         Err(error) => tell(&error, output, faults),
     }
+}
+
+/// Whether `--explain` is among the words. It is never the value of an option.
+fn says_explain(words: &[String]) -> bool {
+    words.iter().any(|word| word.as_str() == EXPLAIN)
 }
 
 /// Forwards under this configuration, with the files in the words, and returns the status.
@@ -101,12 +113,13 @@ fn forward<
     output: &mut W,
     faults: &mut E,
     screen: &mut M,
+    explain: bool,
 ) -> u8
     ensures status { (result ≡ DONE) ⊎ (result ≡ REFUSED) ⊎ (result ≡ MISUSED) }
     ensures done { result ≡ DONE → Keeps (E.contents faults.old) (E.contents faults.new) }
     ensures misused { result ≡ MISUSED → Keeps (W.contents output.old) (W.contents output.new) }
     ensures screen { (said : Config) (shown : Printing) (files : FileOptions) → SaysForward (map string_bytes words.now) said shown files
-        → printing.progress ≡ false → streamed_port files.wires ≡ None → screen.new ≡ screen.old }
+        → printing.progress ≡ false → streamed_port files.wires ≡ None → config.now.turns ≡ 0 → screen.new ≡ screen.old }
     ensures ends { (said : Config) (shown : Printing) (files : FileOptions) → SaysForward (map string_bytes words.now) said shown files
         → EndsForwarding config.now (outlet printing files.wires) files.sources (I.remaining input.old) result (W.contents output.old) (W.contents output.new) }
     ensures unread { (said : Config) (shown : Printing) (files : FileOptions) → SaysForward (map string_bytes words.now) said shown files
@@ -124,6 +137,7 @@ fn forward<
             output,
             faults,
             screen,
+            explain,
         ),
         Err(error) => tell(&error, output, faults),
     }

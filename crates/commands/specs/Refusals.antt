@@ -28,8 +28,8 @@ refusal_number (Capture error) = capture_number error
 refusal_number Input = 82
 refusal_number Memory = 83
 refusal_number Output = 84
-refusal_number FileNotRead = 85
-refusal_number FileNotWritten = 86
+refusal_number (FileNotRead code) = 85
+refusal_number (FileNotWritten code) = 86
 refusal_number SameFile = 87
 
 -- a faulty move and a fault of a script are on a line

@@ -5,9 +5,10 @@ ghost use Rattle.std.specs.Io.KnownBytes.{Appends, Keeps};
 ghost use Rattle.commands.specs.Answers.{EndsAs, IsText, IsWithheld, Prints, Refuses};
 
 use crate::decode::decode;
+use crate::explaining::explain_request;
 use crate::once::once;
 use crate::refusal::Refusal;
-use crate::replay::replay_text;
+use crate::replay::replay_explained;
 use crate::request::Request;
 use std::alloc::Global;
 use std::io::{Read, Write};
@@ -22,7 +23,8 @@ pub const REFUSED: u8 = 1;
 
 /// Serves a request, and returns an exit status. The text goes to `output`, with status 0. A refusal goes to `faults`
 /// as one line, `refused` with its number and its words, with status 1; the line or the record of the input that it
-/// concerns comes first, if there is one. A failed write to `faults` does not change the status.
+/// concerns comes first, if there is one. With `explain`, a second line explains it. A failed write to `faults` does not
+/// change the status.
 pub fn answer<R: Threads + Wait + Sync, I: Read, W: Write, E: Write>(
     rt: &R,
     alloc: Global,
@@ -30,30 +32,67 @@ pub fn answer<R: Threads + Wait + Sync, I: Read, W: Write, E: Write>(
     input: &mut I,
     output: &mut W,
     faults: &mut E,
+    explain: bool,
 ) -> u8
     ensures status { (result ≡ DONE) ⊎ (result ≡ REFUSED) }
     ensures done { result ≡ DONE → Keeps (E.contents faults.old) (E.contents faults.new) }
     ensures ends { EndsAs request.entry (I.remaining input.old) result (W.contents output.old) (W.contents output.new) }
 {
-    match perform(rt, alloc, request, input, output) {
+    let mut why = String::new(alloc);
+    serve(rt, alloc, request, input, output, faults, explain, &mut why)
+}
+
+/// The same, with an empty `why` for the explanation.
+fn serve<R: Threads + Wait + Sync, I: Read, W: Write, E: Write>(
+    rt: &R,
+    alloc: Global,
+    request: Request<'_>,
+    input: &mut I,
+    output: &mut W,
+    faults: &mut E,
+    explain: bool,
+    why: &mut String,
+) -> u8
+    ensures status { (result ≡ DONE) ⊎ (result ≡ REFUSED) }
+    ensures done { result ≡ DONE → Keeps (E.contents faults.old) (E.contents faults.new) }
+    ensures ends { EndsAs request.entry (I.remaining input.old) result (W.contents output.old) (W.contents output.new) }
+{
+    match perform(rt, alloc, request, input, output, why) {
         Ok(()) => DONE,
-        Err(refusal) => refuse(faults, refusal),
+        Err(refusal) => refuse_request(alloc, faults, request, refusal, why, explain),
     }
 }
 
-/// Serves a request. A refusal other than `Output` leaves `output` unchanged.
+/// Prints the refusal of a request, and returns its exit status. Appends to `why` what the request shows of it.
+fn refuse_request<E: Write>(
+    alloc: Global,
+    faults: &mut E,
+    request: Request<'_>,
+    refusal: Refusal,
+    why: &mut String,
+    explain: bool,
+) -> u8
+    ensures { result ≡ REFUSED }
+{
+    let _ = explain_request(alloc, why, request, refusal);
+    refuse_explained(faults, refusal, why.as_str(), explain)
+}
+
+/// Serves a request. A refusal other than `Output` leaves `output` unchanged. If a line of the input is refused, its
+/// explanation is appended to `why`.
 pub fn perform<R: Threads + Wait + Sync, I: Read, W: Write>(
     rt: &R,
     alloc: Global,
     request: Request<'_>,
     input: &mut I,
     output: &mut W,
+    why: &mut String,
 ) -> Result<(), Refusal>
     ensures done { OnOk result (Prints request.entry (I.remaining input.old) (W.contents output.old) (W.contents output.new)) }
     ensures refused { IfErr result (λ e.
         Refuses request.entry (I.remaining input.old) e (W.contents output.old) (W.contents output.new)) }
 {
-    let text = text_of(rt, alloc, request, input)?;
+    let text = text_of(rt, alloc, request, input, why)?;
     print(text.as_str(), output)
 }
 
@@ -63,6 +102,7 @@ fn text_of<R: Threads + Wait + Sync, I: Read>(
     alloc: Global,
     request: Request<'_>,
     input: &mut I,
+    why: &mut String,
 ) -> Result<String, Refusal>
     ensures text { IfOk result (λ text. IsText request.entry (I.remaining input.old) (string_bytes text)) }
     ensures withheld { IfErr result (λ e. IsWithheld request.entry (I.remaining input.old) e) }
@@ -70,7 +110,7 @@ fn text_of<R: Threads + Wait + Sync, I: Read>(
     match request {
         Request::Once { digits } => once(rt, alloc, digits),
         Request::Decode { form, digits } => decode(alloc, form, digits),
-        Request::Replay { plan } => replay_text(alloc, plan, input),
+        Request::Replay { plan } => replay_explained(alloc, plan, input, why),
     }
 }
 
@@ -102,4 +142,21 @@ pub fn refuse<E: Write>(faults: &mut E, refusal: Refusal) -> u8
         (None, None) => writeln!(faults, "refused {number} {refusal}"),
     };
     REFUSED
+}
+
+/// Prints a refusal as one line and, with `explain`, its explanation as a second one: `why`, or a general sentence if
+/// `why` is empty. Returns the exit status. Failed writes are ignored.
+pub fn refuse_explained<E: Write>(faults: &mut E, refusal: Refusal, why: &str, explain: bool) -> u8
+    ensures { result ≡ REFUSED }
+{
+    let status = refuse(faults, refusal);
+    if explain {
+        let text = if why.is_empty() {
+            refusal.advice()
+        } else {
+            why
+        };
+        let _ = writeln!(faults, "note: {text}");
+    }
+    status
 }

@@ -3,7 +3,8 @@
 //! Its contracts pin the printed text of each request; a refusal other than `Output` leaves the output unchanged.
 //!
 //! [`perform`] serves a [`Request`]: the command builds its whole text, which is then printed. If printing fails, it
-//! returns `Output`. [`answer`] also prints refusals and returns an exit status.
+//! returns `Output`. [`answer`] also prints refusals and returns an exit status. A refusal is one line; [`refuse_explained`]
+//! adds a second one, which names the option or the input at fault and the expected value.
 //!
 //! `once` passes a frame through a receive ring, between a controller and a driver on separate threads (`passing`).
 //! `decode` reads a descriptor, and `replay` makes a list of moves on queues. `digits` and `frame` parse an argument of
@@ -13,6 +14,7 @@
 mod answering;
 mod decode;
 mod digits;
+mod explaining;
 mod frame;
 mod input;
 mod lists;
@@ -23,8 +25,9 @@ mod replay;
 mod request;
 mod telling;
 
-pub use answering::{DONE, REFUSED, answer, perform, print, put, refuse};
+pub use answering::{DONE, REFUSED, answer, perform, print, put, refuse, refuse_explained};
 pub use decode::Form;
+pub use explaining::{Excerpt, explain_queues, line_at};
 pub use input::read_text;
 pub use refusal::Refusal;
 pub use replay::{NOTES, Pictures, QueuePlan, Shown, replay_text};

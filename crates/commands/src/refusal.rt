@@ -59,12 +59,12 @@ pub enum Refusal {
     /// Standard output could not be written. Part of the output may have been written.
     #[error("output")]
     Output,
-    /// A file could not be read.
+    /// A file could not be read. `code` is the system's error number, if it gave one.
     #[error("file not read")]
-    FileNotRead,
-    /// A file could not be written.
+    FileNotRead { code: Option<i32> },
+    /// A file could not be written. `code` is the system's error number, if it gave one.
     #[error("file not written")]
-    FileNotWritten,
+    FileNotWritten { code: Option<i32> },
     /// Two files of the command line are the same file.
     #[error("same file")]
     SameFile,
@@ -90,8 +90,8 @@ impl Refusal {
             Refusal::Input => 82,
             Refusal::Memory => 83,
             Refusal::Output => 84,
-            Refusal::FileNotRead => 85,
-            Refusal::FileNotWritten => 86,
+            Refusal::FileNotRead { .. } => 85,
+            Refusal::FileNotWritten { .. } => 86,
             Refusal::SameFile => 87,
         }
     }
@@ -114,6 +114,41 @@ impl Refusal {
         match self {
             Refusal::Capture(error) => error.record(),
             _ => None,
+        }
+    }
+
+    /// A general sentence about the refusal, for an explanation that knows nothing of the input.
+    pub(crate) fn advice(&self) -> &'static str {
+        match self {
+            Refusal::Descriptor(_) => "the bytes are not a descriptor of this form",
+            Refusal::FrameLength | Refusal::Hex => "the argument is not a frame in hex digits",
+            Refusal::Thread | Refusal::Forward(ForwardError::Thread) => {
+                "the system refused a thread, because of a limit on threads or memory"
+            }
+            Refusal::Move { .. } => "the line is not a move",
+            Refusal::Machine(MachineError::Memory)
+            | Refusal::Forward(ForwardError::Memory)
+            | Refusal::Script(ScriptError::Memory)
+            | Refusal::Capture(CaptureError::Memory)
+            | Refusal::Ring(_)
+            | Refusal::Stock(_)
+            | Refusal::Memory => {
+                "the system refused memory; fewer frames, buffers or descriptors need less"
+            }
+            Refusal::Machine(_) | Refusal::Forward(_) => {
+                "a number is outside its range; --help lists the ranges"
+            }
+            Refusal::Script(_) => "the line is not a frame of a script",
+            Refusal::Capture(_) => "the capture cannot be read",
+            Refusal::Input => "standard input cannot be read",
+            Refusal::Output => {
+                "standard output cannot be written, for example because the disk is full; a part may be written"
+            }
+            Refusal::FileNotRead { .. } => "the file cannot be read",
+            Refusal::FileNotWritten { .. } => "the file cannot be written",
+            Refusal::SameFile => {
+                "another --wire-capture or --capture option names the same file, perhaps through a link"
+            }
         }
     }
 }

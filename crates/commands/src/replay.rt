@@ -9,6 +9,7 @@ ghost use Rattle.text_lines.specs.Parts.{lines_of, says_something};
 ghost use Rattle.commands.specs.Lists.{lists_of};
 ghost use Rattle.commands.specs.Replay.{ArePages, HasPage, IsFaulty, IsListPage, IsMoveList, IsNoMove, IsPageOf, IsReplayed, LacksMemory, Reads, RefusesReplay, ReplayRefused, WroteMove, drawn_at_last, drawn_at_once, drawn_of, shown_registers, world_of};
 
+use crate::explaining::{explain_move, line_at};
 use crate::input::read_text;
 use crate::lists::cut_list;
 use crate::refusal::Refusal;
@@ -93,16 +94,36 @@ pub fn replay_text<I: Read>(
     ensures done { IfOk result (λ page. IsReplayed plan (I.remaining input.old) (string_bytes page)) }
     ensures refused { IfErr result (λ e. RefusesReplay plan (I.remaining input.old) e) }
 {
+    let mut why = String::new(alloc);
+    replay_explained(alloc, plan, input, &mut why)
+}
+
+/// The same. Appends the explanation of `Move` to `why`.
+pub(crate) fn replay_explained<I: Read>(
+    alloc: Global,
+    plan: QueuePlan,
+    input: &mut I,
+    why: &mut String,
+) -> Result<String, Refusal>
+    ensures done { IfOk result (λ page. IsReplayed plan (I.remaining input.old) (string_bytes page)) }
+    ensures refused { IfErr result (λ e. RefusesReplay plan (I.remaining input.old) e) }
+{
     let text = read_text(alloc, input)?;
-    page_for(alloc, plan, text.as_slice())
+    page_for(alloc, plan, text.as_slice(), why)
 }
 
 /// The output for a text. The text is checked first, so that no move of a faulty one is made.
-fn page_for(alloc: Global, plan: QueuePlan, text: &[u8]) -> Result<String, Refusal>
+fn page_for(
+    alloc: Global,
+    plan: QueuePlan,
+    text: &[u8],
+    why: &mut String,
+) -> Result<String, Refusal>
     ensures done { IfOk result (λ page. HasPage plan text.now (string_bytes page)) }
     ensures refused { IfErr result (λ e. ReplayRefused plan text.now e) }
 {
     if let Some(line) = faulty_line(text) {
+        let _ = explain_move(why, line_at(text, line));
         return Err(Refusal::Move { line });
     }
     let mut queues = queues_of(alloc, plan)?;

@@ -8,26 +8,28 @@ ghost use Rattle.cover_command.specs.Covers.{EndsCover, Prints, PrintsCover, Pri
 use crate::listing::list_of;
 use crate::request::CoverRequest;
 use crate::searching::search_of;
-use commands::{DONE, Refusal, Shown, print, refuse};
+use commands::{DONE, Refusal, Shown, print, refuse_explained};
 use coverage::{CoverList, Scope, Side};
 use std::alloc::Global;
 use std::io::Write;
 
 /// Serves the request and returns an exit status. Prints the lists to `output`, with status 0. Prints the progress to
-/// `shown`, a line per 1,000 states, and a refusal to `faults` as one line, with status 1.
+/// `shown`, a line per 1,000 states, and a refusal to `faults` as one line, with status 1; with `explain`, a second line
+/// explains it.
 pub fn answer<W: Write, E: Write, M: Write>(
     alloc: Global,
     request: &CoverRequest,
     output: &mut W,
     faults: &mut E,
     shown: &mut M,
+    explain: bool,
 ) -> u8
     ensures ends { EndsCover request.now result (W.contents output.old) (W.contents output.new) }
     ensures done { result ≡ DONE → Keeps (E.contents faults.old) (E.contents faults.new) }
 {
     match perform(alloc, request, output, shown) {
         Ok(()) => DONE,
-        Err(refusal) => refuse(faults, refusal),
+        Err(refusal) => refuse_explained(faults, refusal, "", explain),
     }
 }
 

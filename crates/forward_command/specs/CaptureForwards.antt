@@ -15,7 +15,7 @@ use Rattle.forward_command.specs.declared.captured.refused.Place.TheVariants.{Co
 use Rattle.forward_command.specs.declared.captured.refused.Refused.{Refused}
 use Rattle.forward_command.specs.Gathering.{AreGathered, IsUngathered}
 use Rattle.forward_command.specs.Wires.{IsUncaptured}
-use Rattle.forward_command.specs.Refusals.{refused_itself}
+use Rattle.forward_command.specs.Refusals.{IsFileNotWritten, refused_itself}
 use Rattle.forward_command.specs.Words.{PortFile, SourceFile}
 
 -- the script of the text that was read, which is the input if the input is known; with sources, that of their captures
@@ -48,14 +48,14 @@ HasNoReports config sources input e =
 -- why a wire file is refused before anything is forwarded: it cannot be written, it is the same file as another, or
 -- memory is missing
 abbrev pub IsTaken : Refusal → Type 0
-IsTaken e = (e ≡ refusal.FileNotWritten) ⊎ ((e ≡ refusal.SameFile) ⊎ (e ≡ refusal.Memory))
+IsTaken e = IsFileNotWritten e ⊎ ((e ≡ refusal.SameFile) ⊎ (e ≡ refusal.Memory))
 
 abbrev pub IsUntargeted : List PortFile → Refused → Type 0
 IsUntargeted wires e = (e ≡ refused_itself refusal.Memory) ⊎ ((at : ℕ) × (at < length wires) × (e.place ≡ Wire at) × IsTaken e.refusal)
 
 -- a wire file cannot be written, or there is no capture for it
 abbrev pub IsLost : Refusal → Type 0
-IsLost e = (e ≡ refusal.FileNotWritten) ⊎ IsUncaptured e
+IsLost e = IsFileNotWritten e ⊎ IsUncaptured e
 
 abbrev pub IsUnwritten : List PortFile → Refused → Type 0
 IsUnwritten wires e = (at : ℕ) × (at < length wires) × (e.place ≡ Wire at) × IsLost e.refusal

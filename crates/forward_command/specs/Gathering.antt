@@ -11,6 +11,7 @@ use Rattle.commands.specs.declared.refusal.Refusal.TheVariants as refusal
 use Rattle.wire_script.specs.Frame.{Frame}
 use Rattle.forward_command.specs.declared.captured.refused.Place.TheVariants.{Source}
 use Rattle.forward_command.specs.declared.captured.refused.Refused.{Refused}
+use Rattle.forward_command.specs.Refusals.{IsFileNotRead}
 use Rattle.forward_command.specs.Words.{SourceFile}
 
 -- frames followed by others, or `TooMany` with the number of the first record that does not fit
@@ -36,7 +37,7 @@ AreGathered sources frames = Gathers sources [] frames
 -- after these frames a source is refused: its file cannot be read, memory is missing, or its capture has this fault
 abbrev pub IsUnread : SourceFile → List Frame → Refusal → Type 0
 IsUnread s before e =
-    (e ≡ refusal.FileNotRead) ⊎ ((e ≡ refusal.Memory) ⊎ ((bytes : List ℕ) × (fault : CaptureError) × (e ≡ refusal.Capture fault)
+    IsFileNotRead e ⊎ ((e ≡ refusal.Memory) ⊎ ((bytes : List ℕ) × (fault : CaptureError) × (e ≡ refusal.Capture fault)
     × Fails fault (with_capture before s.port s.queue bytes)))
 
 -- the first source that is refused, and why: captures of the sources before it were gathered

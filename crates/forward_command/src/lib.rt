@@ -11,6 +11,7 @@
 
 mod answering;
 pub mod captured;
+mod explaining;
 mod objects;
 mod page;
 pub mod piped;

@@ -7,17 +7,20 @@ ghost use Rattle.schedule_command.specs.Lists.{Prints, Refuses};
 
 use crate::listing::list_of;
 use crate::request::ScheduleRequest;
-use commands::{DONE, Refusal, print, refuse};
+use commands::{DONE, Refusal, explain_queues, print, refuse_explained};
+use ring_machine::MachineError;
 use std::alloc::Global;
 use std::io::Write;
 
 /// Serves the request and returns an exit status. Prints the lists to `output`, with status 0. Prints a refusal to
-/// `faults` as one line, with status 1. If the queues cannot exist, `output` is unchanged.
+/// `faults` as one line, with status 1; with `explain`, a second line explains it. If the queues cannot exist, `output`
+/// is unchanged.
 pub fn answer<W: Write, E: Write>(
     alloc: Global,
     request: &ScheduleRequest,
     output: &mut W,
     faults: &mut E,
+    explain: bool,
 ) -> u8
     ensures status { (result ≡ DONE) ⊎ (result ≡ REFUSED) }
     ensures done { result ≡ DONE → Keeps (E.contents faults.old) (E.contents faults.new) }
@@ -27,8 +30,20 @@ pub fn answer<W: Write, E: Write>(
 {
     match perform(alloc, request, output) {
         Ok(()) => DONE,
-        Err(refusal) => refuse(faults, refusal),
+        Err(refusal) => {
+            let why = why_of(alloc, request, refusal);
+            refuse_explained(faults, refusal, why.as_str(), explain)
+        }
     }
+}
+
+/// Explains a refusal, as far as the request shows it.
+fn why_of(alloc: Global, request: &ScheduleRequest, refusal: Refusal) -> String {
+    let mut why = String::new(alloc);
+    if let Refusal::Machine(MachineError::RingLength) = refusal {
+        let _ = explain_queues(&mut why, request.plan.pairs, request.plan.ring);
+    }
+    why
 }
 
 /// Draws the requested lists, and prints each as soon as it is drawn.

@@ -118,12 +118,14 @@ fn want_of_memory(rt: HostRuntime) {
     };
     let mut input = "r0 A1 5\nt0 B2\n".as_bytes();
     let mut output = Narrow::new(rt.alloc(), 100);
+    let mut why = String::new(rt.alloc());
     match perform(
         &rt,
         rt.alloc(),
         Request::Replay { plan },
         &mut input,
         &mut output,
+        &mut why,
     ) {
         Ok(()) => same(&rt, output.taken.len(), 40),
         Err(refusal) => {

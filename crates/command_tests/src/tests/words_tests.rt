@@ -154,8 +154,11 @@ const LINES: &[(Refusal, &str)] = &[
     (Input, "refused 82 input\n"),
     (Refusal::Memory, "refused 83 memory\n"),
     (Output, "refused 84 output\n"),
-    (FileNotRead, "refused 85 file not read\n"),
-    (FileNotWritten, "refused 86 file not written\n"),
+    (FileNotRead { code: None }, "refused 85 file not read\n"),
+    (
+        FileNotWritten { code: Some(28) },
+        "refused 86 file not written\n",
+    ),
     (SameFile, "refused 87 same file\n"),
 ];
 

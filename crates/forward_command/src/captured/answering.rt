@@ -6,10 +6,11 @@ ghost use Rattle.forward_command.specs.Forwards.{EndsForward};
 ghost use Rattle.forward_command.specs.CaptureForwards.{EndsRefused, HasNoPage, IsPage, PrintsPage, WithholdsPage};
 ghost use Rattle.forward_command.specs.Streams.{outlet, streamed_port};
 
-use crate::captured::refused::{Refused, tell};
+use crate::captured::refused::{Refused, explain_refused, tell};
 use crate::captured::running::{page_for, script_for};
 use crate::captured::targets::targets_of;
 use crate::captured::words::{Source, WireFile};
+use crate::explaining::{Due, explain_cuts};
 use crate::page::forwarded;
 use crate::printing::Printing;
 use commands::{DONE, put};
@@ -27,7 +28,8 @@ use std::time::Clock;
 /// Prints the wires and counts to `output`, with status 0, and writes the frames that left a port to its wire files.
 /// If a wire file is standard output (`-` or `/dev/stdout`), prints that capture to `output` instead, and the counts
 /// to `screen`. Prints a refusal to `faults` as one line, with status 1, after the name of the file that it concerns,
-/// if any. Shows progress on `screen`, if selected.
+/// if any. Shows progress on `screen`, if selected. With `explain`, a second line explains a refusal, and a line on
+/// `screen` names each flow that was cut before all its frames were offered.
 ///
 /// With sources, `input` is not read. The first of these refusals applies: a wire file that cannot be written, or
 /// that is the same file as another or as a source, before anything else is done; a source, in order; the refusals of
@@ -49,6 +51,7 @@ pub fn answer<
     output: &mut W,
     faults: &mut E,
     screen: &mut M,
+    explain: bool,
 ) -> u8
     ensures status { (result ≡ DONE) ⊎ (result ≡ REFUSED) }
     ensures done { result ≡ DONE → Keeps (E.contents faults.old) (E.contents faults.new) }
@@ -59,18 +62,28 @@ pub fn answer<
     ensures refused { result ≡ REFUSED
         → EndsRefused config.now (outlet printing wires.now) sources.now (I.remaining input.old) (W.contents output.old) (W.contents output.new) }
     ensures unread { sources.now ≢ [] → input.new ≡ input.old }
-    ensures screen { printing.progress ≡ false → streamed_port wires.now ≡ None → screen.new ≡ screen.old }
+    ensures screen { printing.progress ≡ false → streamed_port wires.now ≡ None → config.now.turns ≡ 0 → screen.new ≡ screen.old }
 {
+    let mut why = String::new(alloc);
     match perform(
-        rt, alloc, config, printing, sources, wires, input, output, screen,
+        rt, alloc, config, printing, sources, wires, input, output, screen, &mut why,
     ) {
-        Ok(()) => DONE,
-        Err(refused) => tell(faults, sources, wires, refused),
+        Ok(()) => {
+            if explain && config.turns != 0 && !why.is_empty() {
+                let _ = writeln!(screen, "note: {why}");
+            }
+            DONE
+        }
+        Err(refused) => {
+            let _ = explain_refused(&mut why, config, sources, wires, refused);
+            tell(faults, sources, wires, refused, why.as_str(), explain)
+        }
     }
 }
 
 /// Forwards with captures, writes the wire files and prints the output. A refusal before the printing leaves `output`
-/// unchanged. A failing `screen` changes nothing.
+/// unchanged. A failing `screen` changes nothing. Appends to `why` what the input shows of a refusal, or the flows that
+/// were cut before all their frames were offered.
 pub fn perform<
     R: Threads + Wait + Clock + Sync + Files,
     I: Read,
@@ -86,6 +99,7 @@ pub fn perform<
     input: &mut I,
     output: &mut W,
     screen: &mut M,
+    why: &mut String,
 ) -> Result<(), Refused>
     ensures done { OnOk result (PrintsPage config.now (outlet printing wires.now) sources.now (I.remaining input.old) (W.contents output.old) (W.contents output.new)) }
     ensures refused { IfErr result (λ e.
@@ -93,7 +107,9 @@ pub fn perform<
     ensures unread { sources.now ≢ [] → input.new ≡ input.old }
     ensures screen { printing.progress ≡ false → streamed_port wires.now ≡ None → screen.new ≡ screen.old }
 {
-    let (bytes, text) = page_of(rt, alloc, config, printing, sources, wires, input, screen)?;
+    let (bytes, text) = page_of(
+        rt, alloc, config, printing, sources, wires, input, screen, why,
+    )?;
     put(bytes.as_slice(), output)?;
     if let Some(text) = text {
         let _ = screen.write_all(text.as_bytes());
@@ -113,6 +129,7 @@ fn page_of<R: Threads + Wait + Clock + Sync + Files, I: Read, M: Write + IsTermi
     wires: &[WireFile<'_>],
     input: &mut I,
     screen: &mut M,
+    why: &mut String,
 ) -> Result<(Vec<u8>, Option<String>), Refused>
     ensures page { IfOk result (λ p. IsPage config.now (outlet printing wires.now) sources.now (I.remaining input.old) p.0.items) }
     ensures beside { IfOk result (λ p. streamed_port wires.now ≡ None → p.1 ≡ None) }
@@ -121,11 +138,13 @@ fn page_of<R: Threads + Wait + Clock + Sync + Files, I: Read, M: Write + IsTermi
     ensures screen { printing.progress ≡ false → screen.new ≡ screen.old }
 {
     let targets = targets_of(rt, alloc, sources, wires)?;
-    let script = script_for(rt, alloc, sources, input)?;
+    let script = script_for(rt, alloc, config.pairs, sources, input, why)?;
+    let due = Due::of(&script);
     let form = printing.form(screen.is_terminal());
     let report = forwarded(rt, alloc, config, script, screen, form)?;
     let pairs = config.pairs as usize;
     let flows = report.flows.as_slice();
+    let _ = explain_cuts(why, pairs, config.turns, &due, flows);
     let page = page_for(rt, alloc, pairs, printing, wires, targets.as_slice(), flows);
     drop(report);
     page

@@ -2,12 +2,13 @@
 ghost use Rattle.std.specs.Prelude.{◌≡◌, ◌⊎◌, IfErr};
 ghost use Rattle.commands.specs.declared.refusal.Refusal.TheVariants as refusal;
 ghost use Rattle.forward_command.specs.CaptureForwards.{IsLost};
+ghost use Rattle.forward_command.specs.Refusals.{IsFileNotRead, IsFileNotWritten};
 
-use commands::{Refusal, read_text};
+use commands::Refusal;
 use std::alloc::Global;
 use std::fs;
 use std::fs::{File, Metadata, OpenOptions};
-use std::io::{ErrorKind, Write};
+use std::io::{Error, ErrorKind, Read, Write};
 use std::os::unix::fs::MetadataExt;
 use std::rt::Files;
 
@@ -17,6 +18,25 @@ const MOST_PARTS: u32 = 1_000;
 /// The file of standard input.
 const INPUT: &str = "/dev/stdin";
 
+/// The system's error number for a file that exists.
+const EEXIST: i32 = 17;
+
+/// The refusal of a file that cannot be read.
+fn not_read(error: Error) -> Refusal
+    ensures { IsFileNotRead result }
+{
+    let code = error.raw_os_error();
+    Refusal::FileNotRead { code }
+}
+
+/// The refusal of a file that cannot be written.
+pub fn not_written(error: Error) -> Refusal
+    ensures { IsFileNotWritten result }
+{
+    let code = error.raw_os_error();
+    Refusal::FileNotWritten { code }
+}
+
 /// The path of a source's file; `-` is standard input.
 pub fn source_path(file: &str) -> &str {
     if file == "-" { INPUT } else { file }
@@ -25,13 +45,14 @@ pub fn source_path(file: &str) -> &str {
 /// Reads a source's file. Returns `FileNotRead` if it cannot be read, and `Memory` if there is no memory for its
 /// bytes.
 pub fn read_file<R: Files>(rt: &R, alloc: Global, file: &str) -> Result<Vec<u8>, Refusal>
-    ensures { IfErr result (λ e. (e ≡ refusal.FileNotRead) ⊎ (e ≡ refusal.Memory)) }
+    ensures { IfErr result (λ e. IsFileNotRead e ⊎ (e ≡ refusal.Memory)) }
 {
-    let mut opened = File::open(rt, source_path(file)).map_err(|_| Refusal::FileNotRead)?;
-    match read_text(alloc, &mut opened) {
-        Ok(bytes) => Ok(bytes),
-        Err(Refusal::Memory) => Err(Refusal::Memory),
-        Err(_) => Err(Refusal::FileNotRead),
+    let mut opened = File::open(rt, source_path(file)).map_err(not_read)?;
+    let mut bytes = Vec::new(alloc);
+    match opened.read_to_end(&mut bytes) {
+        Ok(_) => Ok(bytes),
+        Err(error) if error.kind() == ErrorKind::OutOfMemory => Err(Refusal::Memory),
+        Err(error) => Err(not_read(error)),
     }
 }
 
@@ -51,9 +72,9 @@ pub fn write_part<R: Files>(
         let _ = rt.chown(part.as_str(), Some(old.uid()), Some(old.gid()));
         let _ = fs::set_permissions(rt, part.as_str(), old.permissions());
     }
-    if file.write_all(bytes).is_err() {
+    if let Err(error) = file.write_all(bytes) {
         remove(rt, part.as_str());
-        return Err(Refusal::FileNotWritten);
+        return Err(not_written(error));
     }
     Ok(part)
 }
@@ -67,10 +88,10 @@ fn new_part<R: Files>(rt: &R, alloc: Global, path: &str) -> Result<(String, R::F
         match File::create_new(rt, part.as_str()) {
             Ok(file) => return Ok((part, file)),
             Err(error) if error.kind() == ErrorKind::AlreadyExists => {}
-            Err(_) => return Err(Refusal::FileNotWritten),
+            Err(error) => return Err(not_written(error)),
         }
     }
-    Err(Refusal::FileNotWritten)
+    Err(Refusal::FileNotWritten { code: Some(EEXIST) })
 }
 
 /// Whether this part can replace the old file: that has no other name, and the part has its owner and permissions.
@@ -88,14 +109,14 @@ pub fn is_kept_by<R: Files>(rt: &R, part: &str, old: &Metadata) -> bool {
 
 /// Writes these bytes into a FIFO, a device or a socket.
 pub fn write_into<R: Files>(rt: &R, file: &str, bytes: &[u8]) -> Result<(), Refusal>
-    ensures { IfErr result (λ e. e ≡ refusal.FileNotWritten) }
+    ensures { IfErr result IsFileNotWritten }
 {
     put(rt, OpenOptions::new().write(true), file, bytes)
 }
 
 /// Replaces the contents of a regular file with these bytes.
 pub fn overwrite<R: Files>(rt: &R, file: &str, bytes: &[u8]) -> Result<(), Refusal>
-    ensures { IfErr result (λ e. e ≡ refusal.FileNotWritten) }
+    ensures { IfErr result IsFileNotWritten }
 {
     put(
         rt,
@@ -107,21 +128,21 @@ pub fn overwrite<R: Files>(rt: &R, file: &str, bytes: &[u8]) -> Result<(), Refus
 
 /// Opens an existing file, and writes these bytes.
 fn put<R: Files>(rt: &R, how: &OpenOptions, file: &str, bytes: &[u8]) -> Result<(), Refusal>
-    ensures { IfErr result (λ e. e ≡ refusal.FileNotWritten) }
+    ensures { IfErr result IsFileNotWritten }
 {
-    let mut opened = how.open(rt, file).map_err(|_| Refusal::FileNotWritten)?;
-    opened.write_all(bytes).map_err(|_| Refusal::FileNotWritten)
+    let mut opened = how.open(rt, file).map_err(not_written)?;
+    opened.write_all(bytes).map_err(not_written)
 }
 
 /// Renames a file, replacing the file at the new name. Removes the file if it cannot be renamed.
 pub fn rename<R: Files>(rt: &R, from: &str, to: &str) -> Result<(), Refusal>
-    ensures { IfErr result (λ e. e ≡ refusal.FileNotWritten) }
+    ensures { IfErr result IsFileNotWritten }
 {
     match fs::rename(rt, from, to) {
         Ok(()) => Ok(()),
-        Err(_) => {
+        Err(error) => {
             remove(rt, from);
-            Err(Refusal::FileNotWritten)
+            Err(not_written(error))
         }
     }
 }

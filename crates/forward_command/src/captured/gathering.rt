@@ -10,6 +10,7 @@ ghost use Rattle.forward_command.specs.Gathering.{AreGathered, IsUngathered, IsU
 use crate::captured::files::read_file;
 use crate::captured::refused::{Place, Refused};
 use crate::captured::words::Source;
+use crate::explaining::explain_capture;
 use capture::{CaptureError, CaptureRecord, read};
 use commands::Refusal;
 use limits::MOST_SCRIPT_FRAMES;
@@ -87,15 +88,21 @@ fn frame_for(
 /// Returns the frames of the captures in these files, source by source, each at its port and queue.
 ///
 /// Returns the first source that is refused, with `FileNotRead` if its file cannot be read, `Memory` if its bytes
-/// cannot be allocated, or the fault of its capture. The bytes of a file are freed before the next file is read.
-pub fn gather<R: Files>(rt: &R, alloc: Global, sources: &[Source<'_>]) -> Result<Script, Refused>
+/// cannot be allocated, or the fault of its capture, whose explanation is appended to `why`. The bytes of a file are
+/// freed before the next file is read.
+pub fn gather<R: Files>(
+    rt: &R,
+    alloc: Global,
+    sources: &[Source<'_>],
+    why: &mut String,
+) -> Result<Script, Refused>
     ensures frames { IfOk result (λ script. AreGathered sources.now script) }
     ensures refused { IfErr result (λ e. IsUngathered sources.now e) }
 {
     let mut frames = Vec::new(alloc);
     let mut at = 0usize;
     for source in sources {
-        let added = add_file(rt, alloc, &mut frames, source);
+        let added = add_file(rt, alloc, &mut frames, source, why);
         if let Err(refusal) = added {
             drop(frames);
             let place = Place::Source(at);
@@ -112,6 +119,7 @@ fn add_file<R: Files>(
     alloc: Global,
     frames: &mut Vec<WireFrame>,
     source: &Source<'_>,
+    why: &mut String,
 ) -> Result<(), Refusal>
     requires room { length frames.old.items ≤ MOST_SCRIPT_FRAMES }
     ensures added { OnOk result ((bytes : List ℕ) × (with_capture frames.old.items source.now.port source.now.queue bytes ≡ Ok frames.new.items)) }
@@ -120,5 +128,11 @@ fn add_file<R: Files>(
 {
     let bytes = read_file(rt, alloc, source.file())?;
     let (port, queue) = source.place();
-    Ok(add_capture(alloc, frames, port, queue, bytes.as_slice())?)
+    match add_capture(alloc, frames, port, queue, bytes.as_slice()) {
+        Ok(()) => Ok(()),
+        Err(fault) => {
+            let _ = explain_capture(alloc, why, bytes.as_slice(), fault);
+            Err(Refusal::Capture(fault))
+        }
+    }
 }

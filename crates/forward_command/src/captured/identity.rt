@@ -2,6 +2,7 @@
 ghost use Rattle.std.specs.Prelude.{IfErr};
 ghost use Rattle.forward_command.specs.CaptureForwards.{IsTaken};
 
+use crate::captured::files::not_written;
 use commands::Refusal;
 use std::alloc::Global;
 use std::fs::Metadata;
@@ -39,7 +40,7 @@ pub(crate) fn absent<R: Files>(rt: &R, alloc: Global, path: &str) -> Result<Iden
         _ => ".",
     };
     let found = rt.canonicalize(alloc, folder);
-    let mut whole = found.map_err(|_| Refusal::FileNotWritten)?;
+    let mut whole = found.map_err(not_written)?;
     whole.push(path.file_name().unwrap_or(""))?;
     let path = whole.into_string();
     Ok(Identity::Absent { path })

@@ -4,7 +4,11 @@ ghost use Rattle.commands.specs.declared.answering.TheConstants.{REFUSED};
 ghost use Rattle.forward_command.specs.Refusals.{refused_itself};
 
 use crate::captured::words::{Source, WireFile};
-use commands::{Refusal, refuse};
+use crate::explaining::{explain_config, explain_file};
+use commands::{Refusal, refuse_explained};
+use forwarder::Config;
+use forwarding::ForwardError;
+use std::alloc::AllocError;
 use std::io::Write;
 
 /// The subject of a refusal.
@@ -38,22 +42,46 @@ impl From<Refusal> for Refused {
     }
 }
 
+/// The file that a refusal concerns, if any.
+fn file_of<'a>(sources: &[Source<'a>], wires: &[WireFile<'a>], place: Place) -> Option<&'a str> {
+    match place {
+        Place::Source(at) => sources.get(at).map(|source| source.file()),
+        Place::Wire(at) => wires.get(at).map(|wire| wire.file()),
+        Place::Command => None,
+    }
+}
+
+/// Appends to `why` what the options show of a refusal: a number outside its range, a queue that does not exist, or the
+/// system's reason for refusing a file.
+pub(crate) fn explain_refused(
+    why: &mut String,
+    config: &Config,
+    sources: &[Source<'_>],
+    wires: &[WireFile<'_>],
+    refused: Refused,
+) -> Result<(), AllocError> {
+    if let Refusal::Forward(ForwardError::Config) = refused.refusal {
+        return explain_config(why, config, sources);
+    }
+    match file_of(sources, wires, refused.place) {
+        Some(file) => explain_file(why, file, refused.refusal),
+        None => Ok(()),
+    }
+}
+
 /// Prints a refusal as the other commands do, after the name of the file that it concerns, if any. Returns its status.
-pub fn tell<E: Write>(
+pub(crate) fn tell<E: Write>(
     faults: &mut E,
     sources: &[Source<'_>],
     wires: &[WireFile<'_>],
     refused: Refused,
+    why: &str,
+    explain: bool,
 ) -> u8
     ensures { result ≡ REFUSED }
 {
-    let file = match refused.place {
-        Place::Source(at) => sources.get(at).map(|source| source.file()),
-        Place::Wire(at) => wires.get(at).map(|wire| wire.file()),
-        Place::Command => None,
-    };
-    if let Some(file) = file {
+    if let Some(file) = file_of(sources, wires, refused.place) {
         let _ = write!(faults, "{file}: ");
     }
-    refuse(faults, refused.refusal)
+    refuse_explained(faults, refused.refusal, why, explain)
 }

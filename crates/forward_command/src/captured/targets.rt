@@ -3,7 +3,7 @@ ghost use Rattle.std.specs.Prelude.{◌≡◌, ◌⊎◌, ◌+◌, length, IfErr
 ghost use Rattle.commands.specs.declared.refusal.Refusal.TheVariants as refusal;
 ghost use Rattle.forward_command.specs.CaptureForwards.{IsTaken, IsUntargeted};
 
-use crate::captured::files::source_path;
+use crate::captured::files::{not_written, source_path};
 use crate::captured::identity::{Identity, absent, identity_of};
 use crate::captured::refused::{Place, Refused};
 use crate::captured::words::{Source, WireFile, names_output};
@@ -17,6 +17,12 @@ use std::rt::Files;
 
 /// The maximum number of consecutive symbolic links, as in Linux.
 const MOST_LINKS: u32 = 40;
+
+/// The system's error number for a folder.
+const EISDIR: i32 = 21;
+
+/// The system's error number for too many symbolic links.
+const ELOOP: i32 = 40;
 
 /// The target of a port's capture.
 #[derive(Drop)]
@@ -114,11 +120,11 @@ fn target_of<R: Files>(
         return Ok((Target::Output, Some(Identity::Output)));
     }
     match fs::metadata(rt, file) {
-        Ok(old) if old.is_dir() => Err(Refusal::FileNotWritten),
+        Ok(old) if old.is_dir() => Err(Refusal::FileNotWritten { code: Some(EISDIR) }),
         Ok(old) if old.is_file() => regular(rt, alloc, file, old),
         Ok(old) => Ok((Target::Stream, identity_of(&old))),
         Err(error) if error.kind() == ErrorKind::NotFound => new(rt, alloc, file),
-        Err(_) => Err(Refusal::FileNotWritten),
+        Err(error) => Err(not_written(error)),
     }
 }
 
@@ -132,9 +138,9 @@ fn regular<R: Files>(
     ensures { IfErr result IsTaken }
 {
     let opened = OpenOptions::new().write(true).open(rt, file);
-    let _opened = opened.map_err(|_| Refusal::FileNotWritten)?;
+    let _opened = opened.map_err(not_written)?;
     let whole = rt.canonicalize(alloc, file);
-    let path = whole.map_err(|_| Refusal::FileNotWritten)?.into_string();
+    let path = whole.map_err(not_written)?.into_string();
     let identity = identity_of(&old);
     Ok((Target::Regular { path, old }, identity))
 }
@@ -159,7 +165,7 @@ fn followed<R: Files>(rt: &R, alloc: Global, file: &str) -> Result<String, Refus
         };
         path = next;
     }
-    Err(Refusal::FileNotWritten)
+    Err(Refusal::FileNotWritten { code: Some(ELOOP) })
 }
 
 /// The target of the symbolic link at this path, if there is one.

@@ -1,6 +1,8 @@
 //! Converts the input of the two commands.
 ghost use Rattle.std.specs.Prelude.{◌≡◌, ◌<◌, IfErr, IfOk, Ok};
 ghost use Rattle.std.specs.String.{string_bytes};
+ghost use Rattle.capture.specs.CaptureError.{Answers};
+ghost use Rattle.capture.specs.Reading.{capture_in as capture_of_bytes};
 ghost use Rattle.commands.specs.declared.refusal.Refusal.TheVariants as refusal;
 ghost use Rattle.wire_script.specs.ScriptError.{Fails};
 ghost use Rattle.refusals.specs.declared.errors.ScriptError.{ScriptError};
@@ -8,19 +10,21 @@ ghost use Rattle.forward_command.specs.Meanings.{IsRefusedAs, Makes, Refuses, ca
 ghost use Rattle.forward_command.specs.Requests.{IsPlaced};
 ghost use Rattle.limits.specs.declared.profile.TheConstants.{MOST_PAIRS, PORTS};
 
+use crate::explaining::{explain_capture, explain_script};
 use crate::piped::flow_lines::pass_flows;
 use crate::piped::request::CaptureRequest;
-use capture::{capture_of, lines_at, read};
+use capture::{Capture, CaptureError, capture_of, lines_at, read};
 use commands::{Refusal, read_text};
 use std::alloc::Global;
 use std::io::Read;
 use wire_script::{Script, parse};
 
-/// Reads the input and converts it as the request asks.
+/// Reads the input and converts it as the request asks. Appends the explanation of a fault to `why`.
 pub(crate) fn page_of<I: Read>(
     alloc: Global,
     request: CaptureRequest,
     input: &mut I,
+    why: &mut String,
 ) -> Result<Vec<u8>, Refusal>
     requires { IsPlaced request }
     ensures done { IfOk result (λ page. Makes (meant request) (I.remaining input.old) page.items) }
@@ -29,44 +33,77 @@ pub(crate) fn page_of<I: Read>(
     let given = read_text(alloc, input)?;
     match request {
         CaptureRequest::FromCapture { port, queue } => {
-            let text = lines_in(alloc, port, queue, given.as_slice())?;
+            let text = lines_in(alloc, port, queue, given.as_slice(), why)?;
             Ok(text.into_bytes())
         }
-        CaptureRequest::ToCapture { port } => capture_in(alloc, port, given),
+        CaptureRequest::ToCapture { port } => capture_in(alloc, port, given, why),
     }
 }
 
 /// Returns the frames of a capture as script lines, at this port, 0 or 1, and this queue, 0 to 7.
 ///
-/// Returns the capture's first fault or its `Memory`, and `Memory` if the text cannot be allocated.
-pub fn lines_in(alloc: Global, port: u8, queue: u8, bytes: &[u8]) -> Result<String, Refusal>
+/// Returns the capture's first fault, whose explanation is appended to `why`, or its `Memory`, and `Memory` if the text
+/// cannot be allocated.
+pub fn lines_in(
+    alloc: Global,
+    port: u8,
+    queue: u8,
+    bytes: &[u8],
+    why: &mut String,
+) -> Result<String, Refusal>
     requires port { port < PORTS }
     requires queue { queue < MOST_PAIRS }
     ensures done { IfOk result (λ text. lines_meant port queue bytes.now ≡ Ok (string_bytes text)) }
     ensures refused { IfErr result (λ e. IsRefusedAs (lines_meant port queue bytes.now) e) }
 {
-    let found = read(alloc, bytes)?;
+    let found = read_explained(alloc, bytes, why)?;
     lines_at(alloc, port, queue, found.records()).map_err(|_| Refusal::Memory)
+}
+
+/// Reads a capture. Appends the explanation of a fault to `why`.
+fn read_explained<'a>(
+    alloc: Global,
+    bytes: &'a [u8],
+    why: &mut String,
+) -> Result<Capture<'a>, CaptureError>
+    ensures { Answers result (capture_of_bytes bytes.now) }
+{
+    let found = read(alloc, bytes);
+    if let Err(fault) = found {
+        let _ = explain_capture(alloc, why, bytes, fault);
+    }
+    found
 }
 
 /// Returns the frames of this port as a capture. The text is a script, or a page of `forward`, whose flow lines are
 /// skipped. Frame k, counted from 0, has a timestamp of k microseconds.
 ///
-/// Returns the script's first fault or its `Memory`, and `Memory` if the capture cannot be allocated. The text is freed
-/// before the capture is built.
-pub fn capture_in(alloc: Global, port: u8, text: Vec<u8>) -> Result<Vec<u8>, Refusal>
+/// Returns the script's first fault, whose explanation is appended to `why`, or its `Memory`, and `Memory` if the capture
+/// cannot be allocated. The text is freed before the capture is built.
+pub fn capture_in(
+    alloc: Global,
+    port: u8,
+    text: Vec<u8>,
+    why: &mut String,
+) -> Result<Vec<u8>, Refusal>
     ensures done { IfOk result (λ bytes. capture_meant port text.items ≡ Ok bytes.items) }
     ensures refused { IfErr result (λ e. IsRefusedAs (capture_meant port text.items) e) }
 {
-    let script = script_in(alloc, text)?;
+    let script = script_in(alloc, text, why)?;
     capture_of(alloc, port, &script).map_err(|_| Refusal::Memory)
 }
 
 /// Parses a script and skips its flow lines.
-fn script_in(alloc: Global, mut text: Vec<u8>) -> Result<Script, Refusal>
+fn script_in(alloc: Global, mut text: Vec<u8>, why: &mut String) -> Result<Script, Refusal>
     ensures script { IfOk result (λ script. wires_in text.items ≡ Ok script) }
     ensures refused { IfErr result (λ e. (fault : ScriptError) × (e ≡ refusal.Script fault) × Fails fault (wires_in text.items)) }
 {
     pass_flows(text.as_mut_slice());
-    Ok(parse(alloc, text.as_slice())?)
+    match parse(alloc, text.as_slice()) {
+        Ok(script) => Ok(script),
+        Err(fault) => {
+            let _ = explain_script(why, text.as_slice(), fault);
+            Err(Refusal::Script(fault))
+        }
+    }
 }

@@ -14,9 +14,9 @@ returns-in-Ok-clause-ends g c = λ said shown files says.
     (record { script = c.answer.ensures.forward; captured = c.answer.ensures.captured; refused = c.answer.ensures.refused })
 
 pub returns-in-Ok-clause-screen : goal.returns-in-Ok-clause-screen
-returns-in-Ok-clause-screen g c = λ said shown files says unshown whole.
+returns-in-Ok-clause-screen g c = λ said shown files says unshown whole uncut.
     let held = c.in-Ok.ensures said shown files says in
-    c.answer.ensures.screen unshown (subst (λ (ws : List PortFile). streamed_port ws ≡ None) (sym (c.as_slice-in-Ok.ensures.value ∙ held.1)) whole)
+    c.answer.ensures.screen unshown (subst (λ (ws : List PortFile). streamed_port ws ≡ None) (sym (c.as_slice-in-Ok.ensures.value ∙ held.1)) whole) uncut
 
 pub returns-in-Ok-clause-unread : goal.returns-in-Ok-clause-unread
 returns-in-Ok-clause-unread g c = λ said shown files says some.

@@ -48,7 +48,14 @@ fn an_input_that_fails_in_mid_stream_is_refused(rt: HostRuntime) {
 fn capture_written<A: Abort>(rt: &A, alloc: Global) -> Vec<u8> {
     let mut output = Narrow::new(alloc, 400);
     let request = CaptureRequest::ToCapture { port: 1 };
-    match perform(alloc, request, &mut SCRIPT.as_bytes(), &mut output) {
+    let mut why = String::new(alloc);
+    match perform(
+        alloc,
+        request,
+        &mut SCRIPT.as_bytes(),
+        &mut output,
+        &mut why,
+    ) {
         Ok(()) => same(rt, output.taken.len(), 54),
         Err(refusal) => {
             holds(rt, [77, 83, 84].contains(&refusal.number()));
@@ -62,7 +69,8 @@ fn capture_written<A: Abort>(rt: &A, alloc: Global) -> Vec<u8> {
 fn line_is_written<A: Abort>(rt: &A, alloc: Global, mut capture: &[u8]) {
     let mut output = Narrow::new(alloc, 400);
     let request = CaptureRequest::FromCapture { port: 1, queue: 0 };
-    match perform(alloc, request, &mut capture, &mut output) {
+    let mut why = String::new(alloc);
+    match perform(alloc, request, &mut capture, &mut output, &mut why) {
         Ok(()) => same(rt, output.taken.as_slice(), SCRIPT.as_bytes()),
         Err(refusal) => {
             holds(rt, [83, 84, 91, 97].contains(&refusal.number()));

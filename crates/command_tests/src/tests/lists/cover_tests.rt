@@ -53,7 +53,7 @@ fn lists_of_both_queues_are_printed(rt: HostRuntime) {
     let alloc = rt.alloc();
     let (mut output, mut faults) = (Vec::new(alloc), Vec::new(alloc));
     let mut shown = Vec::new(alloc);
-    let status = answer(alloc, &REQUEST, &mut output, &mut faults, &mut shown);
+    let status = answer(alloc, &REQUEST, &mut output, &mut faults, &mut shown, false);
     same(&rt, (status, faults.len()), (0, 0));
     let text = str::from_utf8(output.as_slice()).expect(&rt, "a text");
     has_lists(&rt, alloc, text);
@@ -65,7 +65,14 @@ fn an_output_that_fails_has_a_beginning(rt: HostRuntime) {
     let room = FIRST.len() + 3;
     let mut output = Narrow::new(rt.alloc(), room);
     let (mut faults, mut shown) = (Vec::new(rt.alloc()), Vec::new(rt.alloc()));
-    let status = answer(rt.alloc(), &REQUEST, &mut output, &mut faults, &mut shown);
+    let status = answer(
+        rt.alloc(),
+        &REQUEST,
+        &mut output,
+        &mut faults,
+        &mut shown,
+        false,
+    );
     let wanted = (1, b"refused 84 output\n".as_slice());
     same(&rt, (status, faults.as_slice()), wanted);
     let taken = output.taken.as_slice();

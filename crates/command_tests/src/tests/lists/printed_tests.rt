@@ -34,7 +34,7 @@ const LISTS: &str =
 /// The output of a request that succeeds.
 fn printed<A: Abort>(rt: &A, alloc: Global, request: &ScheduleRequest) -> String {
     let (mut output, mut faults) = (Vec::new(alloc), Vec::new(alloc));
-    let status = answer(alloc, request, &mut output, &mut faults);
+    let status = answer(alloc, request, &mut output, &mut faults, false);
     same(rt, (status, faults.len()), (0, 0));
     String::from_utf8(output).expect(rt, "a text")
 }
@@ -91,7 +91,7 @@ fn is_refused<A: Abort>(
 ) {
     let mut output = Narrow::new(alloc, room);
     let mut faults = Vec::new(alloc);
-    let status = answer(alloc, request, &mut output, &mut faults);
+    let status = answer(alloc, request, &mut output, &mut faults, false);
     let told = (status, faults.as_slice(), output.taken.as_slice());
     same(rt, told, (1, line.as_bytes(), wanted));
 }

@@ -1,0 +1,199 @@
+//! Names the field of a descriptor that breaks the profile, with its bits as the datasheet numbers them.
+
+use crate::decode::Form;
+use descriptor::DescError;
+use limits::{BUFFER_BYTES, LEAST_FRAME, MOST_FRAME};
+use std::alloc::AllocError;
+
+/// The numbers that the profile allows in a field.
+#[derive(Clone, Copy)]
+enum Rule {
+    /// This number alone.
+    Fixed(u64),
+    /// This number alone, which tells the type of the descriptor.
+    Type(u64),
+    /// 0 or 1, and 0 unless EOP (bit 24) is set.
+    BesideEop,
+    /// The numbers from the first to the second.
+    Range(u64, u64),
+    /// Any number.
+    Any,
+}
+
+/// A field of a quadword: its name, its highest and its lowest bit, and its rule.
+#[derive(Clone, Copy)]
+struct Field(&'static str, u32, u32, Rule);
+
+/// Buffer address (82599 datasheet, 7.1.6.1 and 7.2.3.2.4): the buffer's number times 2,048.
+const ADDRESS: &[Field] = &[
+    Field("buffer address", 10, 0, Rule::Fixed(0)),
+    Field("buffer address", 26, 11, Rule::Any),
+    Field("buffer address", 63, 27, Rule::Fixed(0)),
+];
+
+/// Receive descriptor, read format (7.1.6.1).
+const RX_READ: &[Field] = &[
+    Field("DD", 0, 0, Rule::Fixed(0)),
+    Field("header buffer address", 63, 1, Rule::Fixed(0)),
+];
+
+/// Receive descriptor, write-back format (7.1.6.2), first quadword.
+const RX_BACK_FIRST: &[Field] = &[
+    Field("RSS type", 3, 0, Rule::Fixed(0)),
+    Field("packet type", 16, 4, Rule::Fixed(0)),
+    Field("RSCCNT", 20, 17, Rule::Fixed(0)),
+    Field("HDR_LEN", 30, 21, Rule::Fixed(0)),
+    Field("SPH", 31, 31, Rule::Fixed(0)),
+    Field("RSS hash", 63, 32, Rule::Fixed(0)),
+];
+
+/// Receive descriptor, write-back format (7.1.6.2), second quadword.
+const RX_BACK_SECOND: &[Field] = &[
+    Field("DD", 0, 0, Rule::Fixed(1)),
+    Field("EOP", 1, 1, Rule::Any),
+    Field("FLM", 2, 2, Rule::Fixed(0)),
+    Field("VP", 3, 3, Rule::Fixed(0)),
+    Field("UDPCS", 4, 4, Rule::Fixed(0)),
+    Field("L4I", 5, 5, Rule::Fixed(0)),
+    Field("IPCS", 6, 6, Rule::Fixed(0)),
+    Field("PIF", 7, 7, Rule::Fixed(0)),
+    Field("reserved", 8, 8, Rule::Fixed(0)),
+    Field("VEXT", 9, 9, Rule::Fixed(0)),
+    Field("UDPV", 10, 10, Rule::Fixed(0)),
+    Field("LLINT", 11, 11, Rule::Fixed(0)),
+    Field("reserved", 15, 12, Rule::Fixed(0)),
+    Field("TS", 16, 16, Rule::Fixed(0)),
+    Field("SECP", 17, 17, Rule::Fixed(0)),
+    Field("LB", 18, 18, Rule::Fixed(0)),
+    Field("reserved", 19, 19, Rule::Fixed(0)),
+    Field("FDIRERR", 22, 20, Rule::Fixed(0)),
+    Field("HBO", 23, 23, Rule::Fixed(0)),
+    Field("reserved", 26, 24, Rule::Fixed(0)),
+    Field("SECERR", 28, 27, Rule::Fixed(0)),
+    Field("RXE", 29, 29, Rule::Fixed(0)),
+    Field("L4E", 30, 30, Rule::Fixed(0)),
+    Field("IPE", 31, 31, Rule::Fixed(0)),
+    Field("PKT_LEN", 47, 32, Rule::Range(1, BUFFER_BYTES as u64)),
+    Field("VLAN tag", 63, 48, Rule::Fixed(0)),
+];
+
+/// Transmit descriptor, read format (7.2.3.2.4), second quadword.
+const TX_READ: &[Field] = &[
+    Field("DTALEN", 15, 0, Rule::Range(1, BUFFER_BYTES as u64)),
+    Field("reserved", 17, 16, Rule::Fixed(0)),
+    Field("MAC", 19, 18, Rule::Fixed(0)),
+    Field("DTYP", 23, 20, Rule::Type(3)),
+    Field("EOP", 24, 24, Rule::Any),
+    Field("IFCS", 25, 25, Rule::Fixed(1)),
+    Field("reserved", 26, 26, Rule::Fixed(0)),
+    Field("RS", 27, 27, Rule::BesideEop),
+    Field("reserved", 28, 28, Rule::Fixed(0)),
+    Field("DEXT", 29, 29, Rule::Type(1)),
+    Field("VLE", 30, 30, Rule::Fixed(0)),
+    Field("TSE", 31, 31, Rule::Fixed(0)),
+    Field("STA", 35, 32, Rule::Fixed(0)),
+    Field("IDX", 38, 36, Rule::Fixed(0)),
+    Field("CC", 39, 39, Rule::Fixed(0)),
+    Field("POPTS", 45, 40, Rule::Fixed(0)),
+    Field(
+        "PAYLEN",
+        63,
+        46,
+        Rule::Range(LEAST_FRAME as u64, MOST_FRAME as u64),
+    ),
+];
+
+/// Transmit descriptor, write-back format (7.2.3.2.4), first quadword.
+const TX_BACK_FIRST: &[Field] = &[Field("reserved", 63, 0, Rule::Fixed(0))];
+
+/// Transmit descriptor, write-back format (7.2.3.2.4), second quadword.
+const TX_BACK_SECOND: &[Field] = &[
+    Field("reserved", 31, 0, Rule::Fixed(0)),
+    Field("DD", 32, 32, Rule::Fixed(1)),
+    Field("STA", 35, 33, Rule::Fixed(0)),
+    Field("reserved", 63, 36, Rule::Fixed(0)),
+];
+
+/// The fields of a form, by quadword.
+fn fields_of(form: Form) -> (&'static [Field], &'static [Field]) {
+    match form {
+        Form::RxRead => (ADDRESS, RX_READ),
+        Form::RxBack => (RX_BACK_FIRST, RX_BACK_SECOND),
+        Form::TxRead => (ADDRESS, TX_READ),
+        Form::TxBack => (TX_BACK_FIRST, TX_BACK_SECOND),
+    }
+}
+
+/// The number in bits `high` to `low` of a quadword.
+fn bits(quadword: u64, high: u32, low: u32) -> u64 {
+    let above = 63u32.saturating_sub(high);
+    let kept = quadword.checked_shl(above).unwrap_or(0);
+    kept.checked_shr(above.saturating_add(low)).unwrap_or(0)
+}
+
+impl Field {
+    /// Whether this field of a quadword breaks the rule whose violation is this error.
+    fn breaks(self, quadword: u64, error: DescError) -> bool {
+        let Field(_, high, low, rule) = self;
+        let number = bits(quadword, high, low);
+        match (error, rule) {
+            (DescError::Reserved, Rule::Fixed(only)) | (DescError::Kind, Rule::Type(only)) => {
+                number != only
+            }
+            (DescError::Reserved, Rule::BesideEop) => number == 1 && bits(quadword, 24, 24) == 0,
+            (DescError::Size, Rule::Range(least, most)) => number < least || most < number,
+            _ => false,
+        }
+    }
+
+    /// Writes this field's number in a quadword, and the numbers that the profile allows.
+    fn explain(self, why: &mut String, name: &str, quadword: u64) -> Result<(), AllocError> {
+        let Field(field, high, low, rule) = self;
+        let number = bits(quadword, high, low);
+        if high == low {
+            write!(
+                why,
+                "{field} (bit {low} of the {name} quadword) is {number}"
+            )?;
+        } else {
+            write!(
+                why,
+                "{field} (bits {high}:{low} of the {name} quadword) is {number:#x}"
+            )?;
+        }
+        match rule {
+            Rule::Fixed(only) | Rule::Type(only) => write!(why, ", but must be {only}"),
+            Rule::BesideEop => why.push_str(", but must be 0 unless EOP is 1"),
+            Rule::Range(least, most) => {
+                write!(why, " ({number}), but must be {least} to {most}")
+            }
+            Rule::Any => Ok(()),
+        }
+    }
+}
+
+/// The first of these fields that breaks the rule of this error.
+fn first_broken(fields: &[Field], quadword: u64, error: DescError) -> Option<Field> {
+    fields
+        .iter()
+        .find(|field| field.breaks(quadword, error))
+        .copied()
+}
+
+/// Explains why these quadwords are not a descriptor of a form: names the first field that breaks the rule of this
+/// error. Writes nothing if there is none.
+pub(crate) fn explain_field(
+    why: &mut String,
+    form: Form,
+    (first, second): (u64, u64),
+    error: DescError,
+) -> Result<(), AllocError> {
+    let (firsts, seconds) = fields_of(form);
+    if let Some(field) = first_broken(firsts, first, error) {
+        return field.explain(why, "first", first);
+    }
+    if let Some(field) = first_broken(seconds, second, error) {
+        return field.explain(why, "second", second);
+    }
+    Ok(())
+}

@@ -1,0 +1,36 @@
+//! Explains a refused line.
+
+use crate::explaining::excerpt::Excerpt;
+use std::alloc::AllocError;
+use text_lines::cut;
+
+/// Line `number` of a text, counted from 1, without its LF. Returns an empty line if there are fewer.
+pub fn line_at(text: &[u8], number: u64) -> &[u8] {
+    let mut rest = Some(text);
+    for _ in 1..number {
+        rest = match rest {
+            Some(left) => cut(left, b'\n').1,
+            None => return &[],
+        };
+    }
+    match rest {
+        Some(left) => cut(left, b'\n').0,
+        None => &[],
+    }
+}
+
+/// Explains why a line is not a move.
+pub(crate) fn explain_move(why: &mut String, line: &[u8]) -> Result<(), AllocError> {
+    let shown = Excerpt(line);
+    if line.ends_with(b"\r") {
+        return write!(
+            why,
+            "{shown} ends with CR LF, but lines end with LF; tr -d '\\r' converts the list"
+        );
+    }
+    write!(
+        why,
+        "{shown} is not a move: expected a queue (r0 to r7, t0 to t7), a step (A1 to A7, B1 to B8, C1 to C12) and its \
+         arguments, such as \"r0 A1 5\""
+    )
+}
