@@ -2,14 +2,14 @@
 //!
 //! Each function appends its explanation to `why`.
 
-mod capture;
 mod config;
 mod cuts;
+mod faulty_capture;
+mod faulty_script;
 mod files;
-mod script;
 
-pub(crate) use capture::explain_capture;
 pub(crate) use config::explain_config;
 pub(crate) use cuts::{Due, explain_cuts};
+pub(crate) use faulty_capture::explain_capture;
+pub(crate) use faulty_script::{explain_script, first_beyond};
 pub(crate) use files::explain_file;
-pub(crate) use script::{explain_script, first_beyond};

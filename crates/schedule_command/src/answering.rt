@@ -30,20 +30,25 @@ pub fn answer<W: Write, E: Write>(
 {
     match perform(alloc, request, output) {
         Ok(()) => DONE,
-        Err(refusal) => {
-            let why = why_of(alloc, request, refusal);
-            refuse_explained(faults, refusal, why.as_str(), explain)
-        }
+        Err(refusal) => refuse_request(alloc, faults, request, refusal, explain),
     }
 }
 
-/// Explains a refusal, as far as the request shows it.
-fn why_of(alloc: Global, request: &ScheduleRequest, refusal: Refusal) -> String {
+/// Prints the refusal of a request, and returns its exit status.
+fn refuse_request<E: Write>(
+    alloc: Global,
+    faults: &mut E,
+    request: &ScheduleRequest,
+    refusal: Refusal,
+    explain: bool,
+) -> u8
+    ensures { result ≡ REFUSED }
+{
     let mut why = String::new(alloc);
     if let Refusal::Machine(MachineError::RingLength) = refusal {
         let _ = explain_queues(&mut why, request.plan.pairs, request.plan.ring);
     }
-    why
+    refuse_explained(faults, refusal, why.as_str(), explain)
 }
 
 /// Draws the requested lists, and prints each as soon as it is drawn.

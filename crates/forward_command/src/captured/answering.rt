@@ -6,7 +6,7 @@ ghost use Rattle.forward_command.specs.Forwards.{EndsForward};
 ghost use Rattle.forward_command.specs.CaptureForwards.{EndsRefused, HasNoPage, IsPage, PrintsPage, WithholdsPage};
 ghost use Rattle.forward_command.specs.Streams.{outlet, streamed_port};
 
-use crate::captured::refused::{Refused, explain_refused, tell};
+use crate::captured::refused::{Refused, tell};
 use crate::captured::running::{page_for, script_for};
 use crate::captured::targets::targets_of;
 use crate::captured::words::{Source, WireFile};
@@ -65,19 +65,64 @@ pub fn answer<
     ensures screen { printing.progress ≡ false → streamed_port wires.now ≡ None → config.now.turns ≡ 0 → screen.new ≡ screen.old }
 {
     let mut why = String::new(alloc);
+    serve(
+        rt, alloc, config, printing, sources, wires, input, output, faults, screen, explain,
+        &mut why,
+    )
+}
+
+/// The same, with an empty `why` for the explanation.
+fn serve<
+    R: Threads + Wait + Clock + Sync + Files,
+    I: Read,
+    W: Write,
+    E: Write,
+    M: Write + IsTerminal + Send,
+>(
+    rt: &R,
+    alloc: Global,
+    config: &Config,
+    printing: Printing,
+    sources: &[Source<'_>],
+    wires: &[WireFile<'_>],
+    input: &mut I,
+    output: &mut W,
+    faults: &mut E,
+    screen: &mut M,
+    explain: bool,
+    why: &mut String,
+) -> u8
+    ensures status { (result ≡ DONE) ⊎ (result ≡ REFUSED) }
+    ensures done { result ≡ DONE → Keeps (E.contents faults.old) (E.contents faults.new) }
+    ensures forward { sources.now ≡ [] → streamed_port wires.now ≡ None → (text : List ℕ) → I.remaining input.old ≡ Some text
+        → EndsForward config.now printing text result (W.contents output.old) (W.contents output.new) }
+    ensures captured { result ≡ DONE
+        → PrintsPage config.now (outlet printing wires.now) sources.now (I.remaining input.old) (W.contents output.old) (W.contents output.new) }
+    ensures refused { result ≡ REFUSED
+        → EndsRefused config.now (outlet printing wires.now) sources.now (I.remaining input.old) (W.contents output.old) (W.contents output.new) }
+    ensures unread { sources.now ≢ [] → input.new ≡ input.old }
+    ensures screen { printing.progress ≡ false → streamed_port wires.now ≡ None → config.now.turns ≡ 0 → screen.new ≡ screen.old }
+{
     match perform(
-        rt, alloc, config, printing, sources, wires, input, output, screen, &mut why,
+        rt, alloc, config, printing, sources, wires, input, output, screen, why,
     ) {
         Ok(()) => {
-            if explain && config.turns != 0 && !why.is_empty() {
-                let _ = writeln!(screen, "note: {why}");
-            }
+            note_cuts(screen, config.turns, explain, why.as_str());
             DONE
         }
-        Err(refused) => {
-            let _ = explain_refused(&mut why, config, sources, wires, refused);
-            tell(faults, sources, wires, refused, why.as_str(), explain)
-        }
+        Err(refused) => tell(faults, config, sources, wires, refused, why, explain),
+    }
+}
+
+/// Prints the lines of cut flows. Without `--turns`, no flow is cut.
+fn note_cuts<M: Write>(screen: &mut M, turns: u32, explain: bool, why: &str)
+    ensures { turns ≡ 0 → screen.new ≡ screen.old }
+{
+    if turns == 0 {
+        return;
+    }
+    if explain && !why.is_empty() {
+        let _ = writeln!(screen, "note: {why}");
     }
 }
 

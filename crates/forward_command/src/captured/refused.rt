@@ -53,7 +53,7 @@ fn file_of<'a>(sources: &[Source<'a>], wires: &[WireFile<'a>], place: Place) -> 
 
 /// Appends to `why` what the options show of a refusal: a number outside its range, a queue that does not exist, or the
 /// system's reason for refusing a file.
-pub(crate) fn explain_refused(
+fn explain_refused(
     why: &mut String,
     config: &Config,
     sources: &[Source<'_>],
@@ -70,12 +70,14 @@ pub(crate) fn explain_refused(
 }
 
 /// Prints a refusal as the other commands do, after the name of the file that it concerns, if any. Returns its status.
+/// Appends to `why` what the options show of it.
 pub(crate) fn tell<E: Write>(
     faults: &mut E,
+    config: &Config,
     sources: &[Source<'_>],
     wires: &[WireFile<'_>],
     refused: Refused,
-    why: &str,
+    why: &mut String,
     explain: bool,
 ) -> u8
     ensures { result ≡ REFUSED }
@@ -83,5 +85,6 @@ pub(crate) fn tell<E: Write>(
     if let Some(file) = file_of(sources, wires, refused.place) {
         let _ = write!(faults, "{file}: ");
     }
-    refuse_explained(faults, refused.refusal, why, explain)
+    let _ = explain_refused(why, config, sources, wires, refused);
+    refuse_explained(faults, refused.refusal, why.as_str(), explain)
 }

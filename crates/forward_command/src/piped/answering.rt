@@ -30,7 +30,26 @@ pub fn answer<I: Read, W: Write, E: Write>(
         → EndsBy (meant request bytes) result (W.contents output.old) (W.contents output.new) }
 {
     let mut why = String::new(alloc);
-    match perform(alloc, request, input, output, &mut why) {
+    serve(alloc, request, input, output, faults, explain, &mut why)
+}
+
+/// The same, with an empty `why` for the explanation.
+fn serve<I: Read, W: Write, E: Write>(
+    alloc: Global,
+    request: CaptureRequest,
+    input: &mut I,
+    output: &mut W,
+    faults: &mut E,
+    explain: bool,
+    why: &mut String,
+) -> u8
+    requires { IsPlaced request }
+    ensures status { (result ≡ DONE) ⊎ (result ≡ REFUSED) }
+    ensures done { result ≡ DONE → Keeps (E.contents faults.old) (E.contents faults.new) }
+    ensures ends { (bytes : List ℕ) → I.remaining input.old ≡ Some bytes
+        → EndsBy (meant request bytes) result (W.contents output.old) (W.contents output.new) }
+{
+    match perform(alloc, request, input, output, why) {
         Ok(()) => DONE,
         Err(refusal) => refuse_explained(faults, refusal, why.as_str(), explain),
     }
