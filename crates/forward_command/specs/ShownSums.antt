@@ -1,5 +1,5 @@
 -- The sums over all flows.
-use Rattle.std.specs.Prelude.{◌≡◌, ℕ, ◌+◌, ◌-◌, ◌^◌, min, List, [], ◌∷◌}
+use Rattle.std.specs.Prelude.{◌≡◌, ℕ, ◌+◌, ◌-◌, ◌^◌, max, min, List, [], ◌∷◌}
 use Rattle.counters.specs.declared.flows.FlowCells.{FlowCells}
 use Rattle.forward_command.specs.declared.progress.reader.Reader.{Reader}
 use Rattle.forward_command.specs.declared.progress.reading.Seen.{Seen}
@@ -13,10 +13,15 @@ read_by r = r.cells.now
 abbrev pub added : ℕ → ℕ → ℕ
 added m n = min (m + n) (2 ^ 64 - 1)
 
+-- The number of frames of a flow that were offered, at least: what its passes read last. The controller writes its cell
+-- after it has stored frames, so the driver's cell may already count more.
+abbrev pub offered_by : Reader → ℕ
+offered_by r = max r.stat.last.offered r.drive.last.taken
+
 -- these numbers plus those that a flow's passes read last
 abbrev pub with_flow : Seen → Reader → Seen
 with_flow seen r = record {
-  offered = added seen.offered r.stat.last.offered;
+  offered = added seen.offered (offered_by r);
   taken = added seen.taken r.drive.last.taken;
   posted = added seen.posted r.drive.last.posted;
 }

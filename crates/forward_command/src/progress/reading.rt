@@ -1,5 +1,5 @@
 //! Reads the cells of all flows on a thread that does not write them.
-ghost use Rattle.std.specs.Prelude.{◌≡◌, IfOk, map};
+ghost use Rattle.std.specs.Prelude.{◌≡◌, ◌≤◌, IfOk, map};
 ghost use Rattle.counters.specs.Paired.{ArePaired};
 ghost use Rattle.forward_command.specs.ShownSums.{nothing_seen, read_by, sum_from, with_flow};
 
@@ -17,14 +17,18 @@ pub(crate) struct Seen {
 }
 
 impl Reader<'_> {
-    /// Reads the flow's numbers and adds them to `seen`.
+    /// Reads the flow's numbers and adds them to `seen`. A taken frame counts as offered, even if the controller has not
+    /// written its cell since.
     fn add<R: Wait>(&mut self, rt: &R, seen: Seen) -> Seen
         ensures sum { result ≡ with_flow seen self.new }
+        ensures order { seen.taken ≤ seen.offered → result.taken ≤ result.offered }
     {
-        let offered = self.cells.stat.read(rt, &mut self.stat);
         let driven = self.cells.drive.read(rt, &mut self.drive);
+        let offered = self.cells.stat.read(rt, &mut self.stat);
         Seen {
-            offered: seen.offered.saturating_add(offered.offered),
+            offered: seen
+                .offered
+                .saturating_add(offered.offered.max(driven.taken)),
             taken: seen.taken.saturating_add(driven.taken),
             posted: seen.posted.saturating_add(driven.posted),
         }
@@ -48,9 +52,10 @@ pub(crate) fn readers_of<'c>(
     Ok(readers)
 }
 
-/// Reads all flows and returns the sums.
+/// Reads all flows and returns the sums. No more frames are taken than offered.
 pub(crate) fn read_all<R: Wait>(rt: &R, readers: &mut [Reader<'_>]) -> Seen
     ensures sum { result ≡ sum_from nothing_seen readers.new }
+    ensures order { result.taken ≤ result.offered }
 {
     let mut seen = Seen {
         offered: 0,

@@ -12,4 +12,4 @@ loop-reader-preserved g c =
     let read = c.add-seen.new.self in
     let low : done < length readers = omega (arith, c.loop-reader-test.true, c.loop-reader.auto.readers) in
     let more = ap (sum_from nothing_seen) (take_more_set readers done read low) ∙ sum-snoc nothing_seen (take done readers) read in
-    c.add-seen.ensures.sum ∙ ap (λ (seen : Seen). with_flow seen read) c.loop-reader.invariant ∙ sym more
+    (c.add-seen.ensures.sum ∙ ap (λ (seen : Seen). with_flow seen read) c.loop-reader.invariant.0 ∙ sym more, c.add-seen.ensures.order c.loop-reader.invariant.1)
