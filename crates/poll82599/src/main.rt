@@ -2,11 +2,15 @@
 //!
 //! `main` passes the words and the three standard streams to `command_line::run`, standard error a second time for the
 //! progress of a run, and exits with the status that it returns. `command_line` parses the words, and `commands` runs
-//! the commands.
+//! the commands. If the reader of standard output has gone, the program ends quietly (`pipe`).
 #![tactic(auto)]
+
+mod pipe;
 
 use command_line::run;
 use commands::{Refusal, refuse};
+use pipe::{Faults, GONE, Output};
+use std::cell::Cell;
 use std::process::ExitCode;
 use std::rt::Env;
 use std::{env, io};
@@ -17,7 +21,8 @@ fn words_of<R: Env + AllocGlobal>(rt: &R) -> io::Result<Vec<String>> {
 }
 
 fn main(rt: HostRuntime) -> ExitCode {
-    let mut faults = rt.stderr();
+    let is_gone = Cell::new(false);
+    let mut faults = Faults::new(rt.stderr(), &is_gone);
     let Ok(words) = words_of(&rt) else {
         return ExitCode::from(refuse(&mut faults, Refusal::Memory));
     };
@@ -26,9 +31,9 @@ fn main(rt: HostRuntime) -> ExitCode {
         rt.alloc(),
         words.as_slice(),
         &mut rt.stdin(),
-        &mut rt.stdout(),
+        &mut Output::new(rt.stdout(), &is_gone),
         &mut faults,
         &mut rt.stderr(),
     );
-    ExitCode::from(status)
+    ExitCode::from(if is_gone.get() { GONE } else { status })
 }
