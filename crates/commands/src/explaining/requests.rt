@@ -27,7 +27,7 @@ pub(crate) fn explain_request(
         }
         (Request::Once { digits }, Refusal::FrameLength) => write!(
             why,
-            "the frame has {} bytes, but must have {LEAST_FRAME} to {MOST_PASSED}",
+            "the frame's length in bytes is {}, but must be {LEAST_FRAME} to {MOST_PASSED}",
             digits.len() / 2
         ),
         (Request::Decode { form, digits }, Refusal::Descriptor(error)) => {
@@ -51,7 +51,7 @@ fn explain_digits(why: &mut String, digits: &str) -> Result<(), AllocError> {
         ),
         None => write!(
             why,
-            "the argument has {} hex digits, but needs two for each byte",
+            "the number of hex digits is {}, but must be even: two for each byte",
             bytes.len()
         ),
     }
@@ -71,7 +71,7 @@ fn explain_descriptor(
     if bytes.len() != 16 {
         return write!(
             why,
-            "the argument has {} bytes, but a descriptor has 16",
+            "the descriptor's length in bytes is {}, but must be 16",
             bytes.len()
         );
     }

@@ -5,7 +5,7 @@ use capture::{
     link_type_of,
 };
 use commands::Excerpt;
-use limits::MOST_SCRIPT_FRAMES;
+use limits::{LEAST_FRAME, MOST_FRAME, MOST_SCRIPT_FRAMES};
 use std::alloc::{AllocError, Global};
 
 /// The number of bytes at the beginning of a file that determine its format.
@@ -42,8 +42,8 @@ fn explain_format(why: &mut String, bytes: &[u8]) -> Result<(), AllocError> {
     let shown = bytes.get(..MAGIC).unwrap_or(bytes);
     write!(
         why,
-        "the capture has {} bytes and begins with {}, but must be pcap of version 2.4 or pcapng of version 1 with whole \
-         blocks",
+        "the file's length in bytes is {}, and it begins with {}; a capture is pcap of version 2.4, or pcapng of version 1 with \
+         whole blocks",
         bytes.len(),
         Excerpt(shown)
     )
@@ -89,7 +89,7 @@ fn explain_lengths(why: &mut String, fault: Fault, lengths: Lengths) -> Result<(
     match fault {
         Fault::Truncated => write!(
             why,
-            "the record has {captured} bytes, but the file or its block ends before; --skip leaves it out"
+            "the record's length in bytes is {captured}, but the file or its block ends before that; --skip leaves it out"
         ),
         Fault::Snapped => write!(
             why,
@@ -98,7 +98,7 @@ fn explain_lengths(why: &mut String, fault: Fault, lengths: Lengths) -> Result<(
         ),
         Fault::Long | Fault::Short => write!(
             why,
-            "the frame has {captured} bytes, but must have 14 to 15000; --skip leaves such records out"
+            "the frame's length in bytes is {captured}, but must be {LEAST_FRAME} to {MOST_FRAME}; --skip leaves such records out"
         ),
     }
 }

@@ -67,7 +67,7 @@ fn explain_line(why: &mut String, line: &[u8], fault: ScriptError) -> Result<(),
     match fault {
         ScriptError::Fields { .. } => write!(
             why,
-            "{} has {} fields, separated by one space each, but needs PORT QUEUE HEX or PORT QUEUE fill LENGTH BYTE",
+            "the number of fields of {} is {}, but must be 3 (PORT QUEUE HEX) or 5 (PORT QUEUE fill LENGTH BYTE), none of them empty",
             Excerpt(line),
             fields.count
         ),
@@ -87,7 +87,7 @@ fn explain_line(why: &mut String, line: &[u8], fault: ScriptError) -> Result<(),
         ScriptError::Bytes { .. } => explain_bytes(why, &fields),
         ScriptError::FrameLength { .. } => write!(
             why,
-            "the frame has {} bytes, but must have {LEAST_FRAME} to {MOST_FRAME}",
+            "the frame's length in bytes is {}, but must be {LEAST_FRAME} to {MOST_FRAME}",
             length_of(&fields)
         ),
         ScriptError::TooMany { .. } => write!(
@@ -128,7 +128,7 @@ fn explain_bytes(why: &mut String, fields: &Fields<'_>) -> Result<(), AllocError
         ),
         None => write!(
             why,
-            "the field {} has {} hex digits, but needs two for each byte",
+            "the number of hex digits of {} is {}, but must be even: two for each byte",
             Excerpt(fields.bytes),
             fields.bytes.len()
         ),
