@@ -2,7 +2,7 @@
 use Rattle.std.specs.Prelude.{◌≡◌, ℕ, ◌<◌, true, pos, List, [], ◌∷◌, codes, decimal, Some}
 use Rattle.clap.specs.Words.{App, Row, Rule, Text, new_rule, one_of}
 use Rattle.clap.specs.declared.builder.value_parser.ValueParser.TheVariants.{Signed}
-use Rattle.command_line.specs.OptionWords.{with_rules}
+use Rattle.command_line.specs.OptionWords.{explain_rule, with_rules}
 use Rattle.limits.specs.declared.profile.TheConstants.{MOST_PAIRS, PORTS}
 
 -- an argument that is a number up to a given one
@@ -17,11 +17,11 @@ queue_rule = place_rule (codes "queue") 7
 
 -- the command `from-capture`
 abbrev pub from_capture_app : App
-from_capture_app = with_rules (codes "from-capture") (port_rule ∷ queue_rule ∷ [])
+from_capture_app = with_rules (codes "from-capture") (port_rule ∷ queue_rule ∷ explain_rule ∷ [])
 
 -- the command `to-capture`
 abbrev pub to_capture_app : App
-to_capture_app = with_rules (codes "to-capture") (port_rule ∷ [])
+to_capture_app = with_rules (codes "to-capture") (port_rule ∷ explain_rule ∷ [])
 
 -- the words are `from-capture`, a port and a queue
 pub record SaysFromCapture (words : List Text) (port queue : ℕ) : Type 0 where

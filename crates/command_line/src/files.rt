@@ -8,6 +8,7 @@ ghost use Rattle.forward_command.specs.declared.printing.Printing.{Printing as P
 ghost use Rattle.command_line.specs.CommandLine.{SaysForward};
 ghost use Rattle.command_line.specs.FileWords.{AreFiles, AreTold, FileOptions, HasFiles, HoldsFiles, file_values};
 
+use crate::mistakes::error_of;
 use crate::program::program;
 use clap::error::ErrorKind;
 use clap::{ArgMatches, Error};
@@ -37,7 +38,7 @@ pub fn files_of<'a>(alloc: Global, words: &'a [String]) -> Result<ForwardFiles<'
     let matches = program.try_get_matches_from_mut(words)?;
     match files_in(alloc, &matches)? {
         Some(files) => Ok(files),
-        None => Err(program.error(ErrorKind::ValueValidation, NO_FILE)?),
+        None => Err(error_of(alloc, "forward", ErrorKind::ValueValidation, NO_FILE)),
     }
 }
 
