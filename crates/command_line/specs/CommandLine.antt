@@ -19,6 +19,7 @@ use Rattle.command_line.specs.ScheduleWords.{schedules_app}
 use Rattle.schedule_command.specs.declared.request.ScheduleRequest.{ScheduleRequest}
 use Rattle.cover_command.specs.declared.request.CoverRequest.{CoverRequest}
 use Rattle.command_line.specs.FileWords.{AreFiles, FileOptions, file_rule, words_of_files}
+use Rattle.command_line.specs.ReadingWords.{limit_rule, skip_rule}
 use Rattle.command_line.specs.CaptureWords.{from_capture_app, to_capture_app}
 use Rattle.command_line.specs.declared.command.Asked.{Asked}
 use Rattle.command_line.specs.declared.command.Asked.TheVariants as asked
@@ -70,6 +71,8 @@ forward_app = with_rules (codes "forward") (number_rule (codes "pairs") (codes "
     ∷ flag_rule (codes "json")
     ∷ flag_rule (codes "progress")
     ∷ file_rule (codes "capture")
+    ∷ skip_rule
+    ∷ limit_rule
     ∷ file_rule (codes "wire-capture")
     ∷ explain_rule
     ∷ [])
@@ -122,8 +125,8 @@ pub record SaysReplay (words : List Text) (plan : QueuePlan) : Type 0 where
 
 -- the words are `forward` and its options in this order: `--drop` if frames are dropped, `--no-retry` if packets are,
 -- `--head` if the transmit queues report by a head word, `--quiet` if no wire is printed, `--json` if the counts are
--- objects, `--progress` if progress is shown, and `--explain` if a refusal is explained; then `--capture` for each source, and `--wire-capture` for each wire
--- file
+-- objects, `--progress` if progress is shown, and `--explain` if a refusal is explained; then `--capture` for each source, `--skip` if
+-- faulty records of captures are left out, `--limit` if their frames are limited, and `--wire-capture` for each wire file
 pub record SaysForward (words : List Text) (config : Config) (printing : Printing) (files : FileOptions) : Type 0 where
   pub pairs : List Text
   pub ring : List Text

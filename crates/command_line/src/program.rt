@@ -116,7 +116,7 @@ pub(crate) const COMMANDS: &[Entry] = &[
     },
     Entry {
         name: "forward",
-        about: "Forward the frames of a script between two ports, and print the frames that left and the counts of each flow. The script is read from standard input, one frame per line",
+        about: "Forward the frames of a script between two ports, and print the frames that left and the counts of each flow. The script is read from standard input, one frame per line; with --capture, only if standard input is not a terminal and no capture",
         examples: "Examples:\n  echo '0 0 fill 14 05' | poll82599 forward\n  prints 1 0 0506050505050505050505050505\n  and flow 0 0 offered 1 stored 1 dropped 0 oversize 0 taken 1 posted 1 tx-dropped 0 wire 1 left 0 ended drained\n  and flow 1 0 offered 0 stored 0 dropped 0 oversize 0 taken 0 posted 0 tx-dropped 0 wire 0 left 0 ended drained\n\n  echo '1 0 fill 9000 00' | poll82599 forward --ring 8 --bsize 1024\n  prints flow 0 0 offered 0 stored 0 dropped 0 oversize 0 taken 0 posted 0 tx-dropped 0 wire 0 left 0 ended drained\n  and flow 1 0 offered 1 stored 0 dropped 0 oversize 1 taken 0 posted 0 tx-dropped 0 wire 0 left 0 ended drained",
         params: &[
             Param::Number {
@@ -186,7 +186,15 @@ pub(crate) const COMMANDS: &[Entry] = &[
             Param::File {
                 id: "capture",
                 name: "P:Q=FILE",
-                help: "Forward the frames of the capture FILE, which enter port P, queue Q, instead of a script; may be repeated",
+                help: "Forward the frames of the capture FILE, which enter port P, queue Q, before those of a script; may be repeated",
+            },
+            Param::Flag {
+                id: "skip",
+                help: "Leave out records of captures that are truncated, cut by a snap length, longer than 15,000 or shorter than 14 bytes, and report how many",
+            },
+            Param::Said {
+                id: "limit",
+                help: "Read at most this many frames of each capture, 0 to 4,294,967,295",
             },
             Param::File {
                 id: "wire-capture",
@@ -206,6 +214,14 @@ pub(crate) const COMMANDS: &[Entry] = &[
             },
             Param::Queue {
                 help: "Queue of that port, 0 to 7",
+            },
+            Param::Flag {
+                id: "skip",
+                help: "Leave out records that are truncated, cut by a snap length, longer than 15,000 or shorter than 14 bytes, and report on standard error how many",
+            },
+            Param::Said {
+                id: "limit",
+                help: "Read at most this many frames, 0 to 4,294,967,295",
             },
             EXPLAIN,
         ],

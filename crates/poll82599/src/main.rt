@@ -9,6 +9,7 @@ use command_line::run;
 use commands::{Refusal, refuse};
 use std::process::ExitCode;
 use std::rt::Env;
+use std::io::IsTerminal;
 use std::{env, io};
 
 /// Returns the words after the program's name.
@@ -21,11 +22,14 @@ fn main(rt: HostRuntime) -> ExitCode {
     let Ok(words) = words_of(&rt) else {
         return ExitCode::from(refuse(&mut faults, Refusal::Memory));
     };
+    let mut input = rt.stdin();
+    let is_terminal = input.is_terminal();
     let status = run(
         &rt,
         rt.alloc(),
         words.as_slice(),
-        &mut rt.stdin(),
+        &mut input,
+        is_terminal,
         &mut rt.stdout(),
         &mut faults,
         &mut rt.stderr(),
