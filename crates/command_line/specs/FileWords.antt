@@ -1,12 +1,11 @@
 -- The file options of `forward`.
-use Rattle.std.specs.Prelude.{◌≡◌, Bool, List, [], ◌∷◌, ◌++◌, All, codes, map, Option, Some, None}
+use Rattle.std.specs.Prelude.{◌≡◌, ◌||◌, Bool, false, is_some, List, [], ◌∷◌, ◌++◌, All, codes, map, Option, Some, None}
 use Rattle.std.specs.Borrow.{Bor}
 use Rattle.std.specs.List.{AllZip, flat_map}
 use Rattle.clap.specs.Words.{Row, Rule, Text, all_of, new_rule}
 use Rattle.clap.specs.declared.builder.action.ArgAction.TheVariants.{Append}
 use Rattle.forward_command.specs.Intakes.{FrameIntake}
 use Rattle.forward_command.specs.Words.{IsSource, IsWireFile, PortFile, SourceFile, source_word, wire_file_word}
-use Rattle.capture.specs.Reading.{all_records}
 use Rattle.capture.specs.declared.options.ReadOptions.{ReadOptions}
 use Rattle.command_line.specs.OptionWords.{flag_words}
 use Rattle.command_line.specs.ReadingWords.{HasReading, IsLimit, limit_words}
@@ -23,11 +22,15 @@ pub record FileOptions : Type 0 where
   pub reading : ReadOptions
   pub wires : List PortFile
 
+-- captures are to be read with options, and there are none
+abbrev pub lacks_captures : List SourceFile → ReadOptions → Bool
+lacks_captures [] reading = reading.skip || is_some reading.limit
+lacks_captures (s ∷ ss) reading = false
+
 pub record AreFiles (files : FileOptions) : Type 0 where
   pub sources : All IsSource files.sources
   pub limit : IsLimit files.reading.limit
-  -- without captures there is nothing to read
-  pub read : files.sources ≡ [] → files.reading ≡ all_records
+  pub read : lacks_captures files.sources files.reading ≡ false
   pub wires : All IsWireFile files.wires
 
 -- the option is given once for each of these words

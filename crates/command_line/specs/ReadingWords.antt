@@ -1,8 +1,8 @@
 -- The options `--skip` and `--limit`: how captures are read.
-use Rattle.std.specs.Prelude.{◌≡◌, ℕ, ◌^◌, ◌<◌, List, [], ◌∷◌, ◌++◌, codes, decimal, Option, Some, None, IfSome, option_map}
+use Rattle.std.specs.Prelude.{◌≡◌, ℕ, ◌^◌, ◌<◌, List, [], ◌∷◌, codes, decimal, Option, Some, None, IfSome, option_map}
 use Rattle.clap.specs.Words.{Row, Rule, Text, one_of}
 use Rattle.capture.specs.declared.options.ReadOptions.{ReadOptions}
-use Rattle.command_line.specs.OptionWords.{HasFlag, flag_rule, flag_words}
+use Rattle.command_line.specs.OptionWords.{HasFlag, flag_rule}
 use Rattle.command_line.specs.ScheduleWords.{said_rule}
 
 abbrev pub skip_rule : Rule
@@ -15,10 +15,6 @@ limit_rule = said_rule (codes "limit")
 abbrev pub limit_words : Option ℕ → List Text
 limit_words None = []
 limit_words (Some n) = codes "--limit" ∷ decimal n ∷ []
-
--- `--skip` if faulty records are left out, and `--limit` if frames are limited
-abbrev pub reading_words : ReadOptions → List Text
-reading_words reading = flag_words (codes "--skip") reading.skip ++ limit_words reading.limit
 
 -- a limit that an option can have
 abbrev pub IsLimit : Option ℕ → Type 0

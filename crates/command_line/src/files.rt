@@ -6,7 +6,7 @@ ghost use Rattle.clap.specs.declared.error.kind.ErrorKind.TheVariants.{OutOfMemo
 ghost use Rattle.forwarder.specs.declared.config.Config.{Config as ForwardConfig};
 ghost use Rattle.forward_command.specs.declared.printing.Printing.{Printing as Printed};
 ghost use Rattle.command_line.specs.CommandLine.{SaysForward};
-ghost use Rattle.command_line.specs.FileWords.{AreFiles, AreTold, FileOptions, HasFiles, HoldsFiles, file_values};
+ghost use Rattle.command_line.specs.FileWords.{AreFiles, AreTold, FileOptions, HasFiles, HoldsFiles, file_values, lacks_captures};
 
 use crate::mistakes::error_of;
 use crate::program::program;
@@ -52,7 +52,7 @@ pub fn files_of<'a>(alloc: Global, words: &'a [String]) -> Result<ForwardFiles<'
 /// Returns the error for matches whose files are not valid.
 fn fault<'a>(alloc: Global, matches: &ArgMatches<'a>) -> Error {
     let (kind, text) = match matches.subcommand() {
-        Some((_, forward)) if reads_nothing(forward) => {
+        Some((_, forward)) if !forward.contains_id("capture") && has_options(forward) => {
             (ErrorKind::MissingRequiredArgument, NO_CAPTURE)
         }
         _ => (ErrorKind::ValueValidation, NO_FILE),
@@ -60,10 +60,9 @@ fn fault<'a>(alloc: Global, matches: &ArgMatches<'a>) -> Error {
     error_of(alloc, "forward", kind, text)
 }
 
-/// Whether captures are to be read with options, and there are none.
-fn reads_nothing<'a>(forward: &ArgMatches<'a>) -> bool {
-    let has_options = forward.get_flag("skip") || forward.contains_id("limit");
-    has_options && !forward.contains_id("capture")
+/// Whether captures are to be read with options.
+fn has_options<'a>(forward: &ArgMatches<'a>) -> bool {
+    forward.get_flag("skip") || forward.contains_id("limit")
 }
 
 /// Parses the files in matches of the program's command line. Returns `None` if they are not valid.
@@ -96,7 +95,7 @@ fn files_said<'a>(
         return Ok(None);
     };
     let reading = reading_in(forward);
-    if sources.is_empty() && (reading.skip || reading.limit.is_some()) {
+    if lacks_captures(sources.as_slice(), reading) {
         return Ok(None);
     }
     Ok(Some(ForwardFiles {
@@ -104,6 +103,13 @@ fn files_said<'a>(
         reading,
         wires,
     }))
+}
+
+/// Whether captures are to be read with options, and there are none.
+fn lacks_captures(sources: &[Source<'_>], reading: ReadOptions) -> bool
+    ensures { result ≡ lacks_captures sources.now reading }
+{
+    sources.is_empty() && (reading.skip || reading.limit.is_some())
 }
 
 /// Parses each value of an option. Returns `None` if one is malformed.

@@ -8,7 +8,6 @@ ghost use Rattle.wire_script.specs.Frame.{frame_of};
 ghost use Rattle.forward_command.specs.Gathering.{AreGathered, IsAdded, IsUngathered, IsUnread, with_capture};
 
 use crate::captured::files::read_file;
-use crate::captured::intake::Intake;
 use crate::captured::refused::{Place, Refused};
 use crate::captured::words::Source;
 use crate::explaining::explain_capture;
@@ -98,8 +97,8 @@ fn frame_for(
     Ok(WireFrame::new(port, queue, bytes))
 }
 
-/// Returns the frames of the captures in the files of an intake, source by source, each at its port and queue, and how
-/// many records were left out of each.
+/// Returns the frames of the captures in these files, read with these options, source by source, each at its port and
+/// queue, and how many records were left out of each.
 ///
 /// Returns the first source that is refused, with `FileNotRead` if its file cannot be read, `Memory` if its bytes
 /// cannot be allocated, or the fault of its capture, whose explanation is appended to `why`. The bytes of a file are
@@ -107,18 +106,18 @@ fn frame_for(
 pub fn gather<R: Files>(
     rt: &R,
     alloc: Global,
-    intake: &Intake<'_, '_>,
+    reading: ReadOptions,
+    sources: &[Source<'_>],
     why: &mut String,
 ) -> Result<Gathered, Refused>
-    ensures frames { IfOk result (λ g. AreGathered intake.now.reading intake.now.sources g.frames.items g.skipped.items) }
+    ensures frames { IfOk result (λ g. AreGathered reading sources.now g.frames.items g.skipped.items) }
     ensures room { IfOk result (λ g. length g.frames.items ≤ MOST_SCRIPT_FRAMES) }
-    ensures refused { IfErr result (λ e. IsUngathered intake.now.reading intake.now.sources e) }
+    ensures refused { IfErr result (λ e. IsUngathered reading sources.now e) }
 {
-    let reading = intake.reading;
     let mut frames = Vec::new(alloc);
     let mut skipped = Vec::new(alloc);
     let mut at = 0usize;
-    for source in intake.sources {
+    for source in sources {
         let added = add_file(rt, alloc, reading, &mut frames, &mut skipped, source, why);
         if let Err(refusal) = added {
             drop(frames);

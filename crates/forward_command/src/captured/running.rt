@@ -45,7 +45,7 @@ pub(crate) fn script_for<R: Files, I: Read>(
     ensures refused { IfErr result (λ e. IsNoScript intake.now (I.remaining input.old) e) }
     ensures unread { reads_script intake.now ≡ false → input.new ≡ input.old }
 {
-    let Gathered { frames, skipped } = gather(rt, alloc, intake, why)?;
+    let Gathered { frames, skipped } = gather(rt, alloc, intake.reading, intake.sources, why)?;
     if !intake.reads_script() {
         return Ok((Script::new(frames), skipped));
     }

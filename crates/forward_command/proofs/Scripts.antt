@@ -1,0 +1,63 @@
+-- The line of a frame in a script, and a script within its room.
+use Rattle.std.proofs.Common.{◌≡◌, ◌≢◌, ◌∙◌, ℕ, suc, zero, ◌+◌, ◌-◌, ◌<◌, ◌≤◌, true, false, nat_lt, List, [], ◌∷◌, ◌++◌, Result, Ok, Err, ap, refl, sym, subst, length}
+use Rattle.std.specs.Prelude.{Bool, not, ◌||◌, ◌==◌, if◌then◌else◌}
+use Rattle.std.proofs.lemmas.Bool.{le-ltb, lt-ltb}
+use Rattle.refusals.specs.declared.errors.ScriptError.{ScriptError}
+use Rattle.refusals.specs.declared.errors.ScriptError.TheVariants.{Fields, Port, Queue, Bytes, FrameLength, TooMany, Memory}
+use Rattle.text_lines.specs.Parts.{lines_of, says_something}
+use Rattle.wire_script.specs.Frame.{Frame}
+use Rattle.wire_script.specs.Script.{script_of}
+use Rattle.wire_script.specs.ScriptError.{◌>>=◌, Fails}
+use Rattle.forward_command.specs.Intakes.{frame_line, has_input, reads_beside, script_within}
+use Rattle.forward_command.specs.Words.{SourceFile}
+
+-- a line without a frame
+pub silent : (k n : ℕ) (line : List ℕ) (lines : List (List ℕ)) → says_something line ≡ false → frame_line k n (line ∷ lines) ≡ frame_line (k + 1) n lines
+unfolding frame_line
+silent k zero line lines is = ap (λ b. if b then k else frame_line (k + 1) zero lines) is
+silent k (suc n) line lines is = ap (λ b. if b then frame_line (k + 1) n lines else frame_line (k + 1) (suc n) lines) is
+
+-- the line of the frame
+pub here : (k n : ℕ) (line : List ℕ) (lines : List (List ℕ)) → says_something line ≡ true → n ≡ 0 → frame_line k n (line ∷ lines) ≡ k
+unfolding frame_line
+here k zero line lines is none = ap (λ b. if b then k else frame_line (k + 1) zero lines) is
+here k (suc n) line lines is none = let bad : ⊥ = cc none in absurd bad
+
+-- the line of a frame before it
+pub later : (k n m : ℕ) (line : List ℕ) (lines : List (List ℕ)) → says_something line ≡ true → n ≡ m + 1 → frame_line k n (line ∷ lines) ≡ frame_line (k + 1) m lines
+unfolding frame_line
+later k zero m line lines is some = let bad : ⊥ = cc some in absurd bad
+later k (suc n) m line lines is some =
+    ap (λ b. if b then frame_line (k + 1) n lines else frame_line (k + 1) (suc n) lines) is ∙ ap (λ i. frame_line (k + 1) i lines) (ap (λ i. i - 1) some)
+
+-- ---- a script within its room
+
+abbrev pub fitting : ℕ → List ℕ → Result (List Frame) ScriptError → Result (List Frame) ScriptError
+fitting room text r = r >>= λ frames. if nat_lt room (length frames) then Err (TooMany (frame_line 1 room (lines_of text))) else Ok frames
+
+pub faulty : (room : ℕ) (text : List ℕ) (e : ScriptError) → Fails e (script_of text) → Fails e (script_within room text)
+faulty room text Memory fails = fails
+faulty room text (Fields k) fails = ap (fitting room text) fails
+faulty room text (Port k) fails = ap (fitting room text) fails
+faulty room text (Queue k) fails = ap (fitting room text) fails
+faulty room text (Bytes k) fails = ap (fitting room text) fails
+faulty room text (FrameLength k) fails = ap (fitting room text) fails
+faulty room text (TooMany k) fails = ap (fitting room text) fails
+
+pub too-many : (room line : ℕ) (text : List ℕ) (frames : List Frame) → script_of text ≡ Ok frames → room < length frames → line ≡ frame_line 1 room (lines_of text)
+    → script_within room text ≡ Err (TooMany line)
+too-many room line text frames is many at =
+    let t : nat_lt room (length frames) ≡ true = lt-ltb room (length frames) many in
+    ap (fitting room text) is
+    ∙ (ap (λ b. if b then Err (TooMany (frame_line 1 room (lines_of text))) else Ok frames) t ∙ ap (λ k. Err (TooMany k)) (sym at))
+
+pub fits : (room : ℕ) (text : List ℕ) (frames : List Frame) → script_of text ≡ Ok frames → length frames ≤ room → script_within room text ≡ Ok frames
+fits room text frames is few =
+    let t : nat_lt room (length frames) ≡ false = le-ltb room (length frames) few in
+    ap (fitting room text) is ∙ ap (λ b. if b then Err (TooMany (frame_line 1 room (lines_of text))) else Ok frames) t
+
+-- ---- what is read
+
+pub reads-beside : (is_terminal : Bool) (sources : List SourceFile) → (length sources == 0 || not (is_terminal || has_input sources)) ≡ reads_beside is_terminal sources
+reads-beside is_terminal [] = refl
+reads-beside is_terminal (s ∷ ss) = refl
