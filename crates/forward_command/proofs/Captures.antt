@@ -15,9 +15,13 @@ use Rattle.wire_script.specs.Frame.{Frame, frame_of}
 use Rattle.forward_command.specs.Gathering.{Gathers, with_capture, with_frames}
 use Rattle.forward_command.specs.Words.{SourceFile}
 
+-- frames beside the counts of records left out
+abbrev beside : Skipped → Result (List Frame) CaptureError → Result (List Frame × Skipped) CaptureError
+beside k r = r >>= λ frames. Ok (frames, k)
+
 -- what a capture adds to frames, if it has no fault
 abbrev adds : List Frame → ℕ → ℕ → Content × Skipped → Result (List Frame × Skipped) CaptureError
-adds before port queue c = with_frames before (frames_at port queue c.0.records) >>= λ frames. Ok (frames, c.1)
+adds before port queue c = beside c.1 (with_frames before (frames_at port queue c.0.records))
 
 abbrev with_it : List Frame → ℕ → ℕ → Result (Content × Skipped) CaptureError → Result (List Frame × Skipped) CaptureError
 with_it before port queue r = r >>= adds before port queue
@@ -45,10 +49,9 @@ pub too-many : (reading : ReadOptions) (before : List Frame) (room port queue : 
     → room ≡ MOST_SCRIPT_FRAMES - length before → MOST_SCRIPT_FRAMES < length before + length c.records
     → with_capture reading before port queue bytes ≡ Err (TooMany (room + 1))
 too-many reading before room port queue bytes c k is left many =
-    rw left (says reading before port queue bytes c k is ∙ over (frames_at port queue c.records) (length-map c.records (λ r. frame_of port queue r.frame)))
+    rw left (says reading before port queue bytes c k is ∙ ap (beside k) (over (frames_at port queue c.records) (length-map c.records (λ r. frame_of port queue r.frame))))
   where
-    over : (frames : List Frame) → length frames ≡ length c.records
-        → (with_frames before frames >>= λ fs. Ok {E = CaptureError} (fs, k)) ≡ Err (TooMany (MOST_SCRIPT_FRAMES - length before + 1))
+    over : (frames : List Frame) → length frames ≡ length c.records → with_frames before frames ≡ Err (TooMany (MOST_SCRIPT_FRAMES - length before + 1))
     over frames same = let t : nat_lt MOST_SCRIPT_FRAMES (length before + length frames) ≡ true = lt-ltb MOST_SCRIPT_FRAMES (length before + length frames) (rw same many) in rw t refl
 
 -- and not more
@@ -56,9 +59,9 @@ pub added : (reading : ReadOptions) (before : List Frame) (port queue : ℕ) (by
     → records ≡ c.records → length before + length records ≤ MOST_SCRIPT_FRAMES
     → with_capture reading before port queue bytes ≡ Ok (before ++ frames_at port queue records, k)
 added reading before port queue bytes c k records is same few =
-    rw same (says reading before port queue bytes c k is ∙ within (frames_at port queue c.records) (length-map c.records (λ r. frame_of port queue r.frame)))
+    rw same (says reading before port queue bytes c k is ∙ ap (beside k) (within (frames_at port queue c.records) (length-map c.records (λ r. frame_of port queue r.frame))))
   where
-    within : (frames : List Frame) → length frames ≡ length c.records → (with_frames before frames >>= λ fs. Ok {E = CaptureError} (fs, k)) ≡ Ok (before ++ frames, k)
+    within : (frames : List Frame) → length frames ≡ length c.records → with_frames before frames ≡ Ok (before ++ frames)
     within frames size = let t : nat_lt MOST_SCRIPT_FRAMES (length before + length frames) ≡ false = le-ltb MOST_SCRIPT_FRAMES (length before + length frames) (rw (size, ap length (sym same)) few) in rw t refl
 
 -- one source more

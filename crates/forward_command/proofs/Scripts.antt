@@ -1,5 +1,5 @@
 -- The line of a frame in a script, and a script within its room.
-use Rattle.std.proofs.Common.{◌≡◌, ◌≢◌, ◌∙◌, ℕ, suc, zero, ◌+◌, ◌-◌, ◌<◌, ◌≤◌, true, false, nat_lt, List, [], ◌∷◌, ◌++◌, Result, Ok, Err, ap, refl, sym, subst, length}
+use Rattle.std.proofs.Common.{◌≡◌, ◌≢◌, ◌∙◌, ℕ, suc, zero, ◌+◌, ◌-◌, ◌<◌, ◌≤◌, true, false, nat_lt, List, [], ◌∷◌, ◌++◌, Option, Some, None, unwrap_or, Result, Ok, Err, ap, refl, sym, subst, length}
 use Rattle.std.specs.Prelude.{Bool, not, ◌||◌, ◌==◌, if◌then◌else◌}
 use Rattle.std.proofs.lemmas.Bool.{le-ltb, lt-ltb}
 use Rattle.refusals.specs.declared.errors.ScriptError.{ScriptError}
@@ -8,7 +8,7 @@ use Rattle.text_lines.specs.Parts.{lines_of, says_something}
 use Rattle.wire_script.specs.Frame.{Frame}
 use Rattle.wire_script.specs.Script.{script_of}
 use Rattle.wire_script.specs.ScriptError.{◌>>=◌, Fails}
-use Rattle.forward_command.specs.Intakes.{frame_line, has_input, reads_beside, script_within}
+use Rattle.forward_command.specs.Intakes.{frame_line, has_input, left_after, reads_beside, script_within}
 use Rattle.forward_command.specs.Words.{SourceFile}
 
 -- a line without a frame
@@ -29,6 +29,25 @@ unfolding frame_line
 later k zero m line lines is some = let bad : ⊥ = cc some in absurd bad
 later k (suc n) m line lines is some =
     ap (λ b. if b then frame_line (k + 1) n lines else frame_line (k + 1) (suc n) lines) is ∙ ap (λ i. frame_line (k + 1) i lines) (ap (λ i. i - 1) some)
+
+-- the line is the frame
+pub stops : (k n : ℕ) (line : List ℕ) (lines : List (List ℕ)) → left_after line n ≡ None → frame_line k n (line ∷ lines) ≡ k
+stops k n line lines is = by-line (says_something line) refl n is
+  where
+    by-line : (b : Bool) → says_something line ≡ b → (m : ℕ) → ◌≡◌ {A = Option ℕ} (if b then (if m == 0 then None else Some (m - 1)) else Some m) None → frame_line k m (line ∷ lines) ≡ k
+    by-line true says zero none = here k zero line lines says refl
+    by-line true says (suc m) none = let bad : ⊥ = cc none in absurd bad
+    by-line false says m none = let bad : ⊥ = cc none in absurd bad
+
+-- or it is not
+pub goes-on : (k n m : ℕ) (line : List ℕ) (lines : List (List ℕ)) → left_after line n ≡ Some m → frame_line k n (line ∷ lines) ≡ frame_line (k + 1) m lines
+goes-on k n m line lines is = by-line (says_something line) refl n is
+  where
+    by-line : (b : Bool) → says_something line ≡ b → (i : ℕ) → ◌≡◌ {A = Option ℕ} (if b then (if i == 0 then None else Some (i - 1)) else Some i) (Some m)
+        → frame_line k i (line ∷ lines) ≡ frame_line (k + 1) m lines
+    by-line true says zero some = let bad : ⊥ = cc some in absurd bad
+    by-line true says (suc i) some = later k (suc i) i line lines says refl ∙ ap (λ j. frame_line (k + 1) j lines) (ap (λ o. unwrap_or o i) some)
+    by-line false says i some = silent k i line lines says ∙ ap (λ j. frame_line (k + 1) j lines) (ap (λ o. unwrap_or o i) some)
 
 -- ---- a script within its room
 

@@ -1,5 +1,5 @@
 -- The frames that a forwarding takes in: those of captures, and then those of a script.
-use Rattle.std.specs.Prelude.{◌≡◌, ℕ, suc, zero, ◌+◌, ◌-◌, nat_lt, Bool, true, false, not, ◌||◌, if◌then◌else◌, List, [], ◌∷◌, length, Result, Ok, Err}
+use Rattle.std.specs.Prelude.{◌≡◌, ℕ, suc, zero, ◌+◌, ◌-◌, nat_lt, Bool, true, false, not, ◌||◌, ◌==◌, if◌then◌else◌, Option, Some, None, List, [], ◌∷◌, length, Result, Ok, Err}
 use Rattle.std.specs.List.{list_any}
 use Rattle.capture.specs.declared.options.ReadOptions.{ReadOptions}
 use Rattle.limits.specs.declared.profile.TheConstants.{MOST_SCRIPT_FRAMES}
@@ -29,6 +29,10 @@ reads_beside is_terminal (s ∷ ss) = not (is_terminal || has_input (s ∷ ss))
 
 abbrev pub reads_script : FrameIntake → Bool
 reads_script intake = reads_beside intake.is_terminal intake.sources
+
+-- the number of frames before the one that is looked for, after this line: none if the line is that frame
+abbrev pub left_after : List ℕ → ℕ → Option ℕ
+left_after line n = if says_something line then (if n == 0 then None else Some (n - 1)) else Some n
 
 -- the number of the line of frame `n`, counted from 0, in lines without a fault, of which the first has number `k`
 unfoldable pub frame_line : ℕ → ℕ → List (List ℕ) → ℕ

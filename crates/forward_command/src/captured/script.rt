@@ -6,7 +6,7 @@ ghost use Rattle.refusals.specs.declared.errors.ScriptError.{ScriptError as Faul
 ghost use Rattle.text_lines.specs.Parts.{lines_of};
 ghost use Rattle.wire_script.specs.ScriptError.{Answers, Fails};
 ghost use Rattle.forward_command.specs.CaptureForwards.{IsContinued, IsFaulty};
-ghost use Rattle.forward_command.specs.Intakes.{frame_line, script_within};
+ghost use Rattle.forward_command.specs.Intakes.{frame_line, left_after, script_within};
 
 use crate::explaining::{explain_script, first_beyond};
 use commands::{Excerpt, Refusal, read_text};
@@ -86,16 +86,28 @@ fn frame_line(text: &[u8], place: usize) -> u64
     let mut left = place;
     while let Some(bytes) = rest {
         let (content, after) = cut(bytes, b'\n');
-        if says_something(content) {
-            if left == 0 {
-                return line;
-            }
-            left -= 1;
-        }
+        let Some(more) = left_after(content, left) else {
+            return line;
+        };
+        left = more;
         rest = after;
         line += 1;
     }
     line
+}
+
+/// Returns how many frames come before the one that is looked for, after this line. Returns `None` if the line is that
+/// frame.
+fn left_after(line: &[u8], left: usize) -> Option<usize>
+    ensures { result ≡ left_after line.now left }
+{
+    if !says_something(line) {
+        return Some(left);
+    }
+    if left == 0 {
+        return None;
+    }
+    Some(left - 1)
 }
 
 /// Explains the first line whose queue is not below `pairs`, if there is one.

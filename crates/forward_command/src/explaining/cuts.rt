@@ -46,10 +46,10 @@ pub(crate) fn explain_cuts(
         if flow.ended == Ended::Cut && flow.offered < due {
             explain_cut(why, (port, queue), turns, due, flow.offered)?;
         }
-        queue += 1;
+        queue = queue.saturating_add(1);
         if queue == pairs {
             queue = 0;
-            port += 1;
+            port = port.saturating_add(1);
         }
     }
     Ok(())
