@@ -75,11 +75,22 @@ pub fn asked_of<'a>(alloc: Global, words: &'a [String]) -> Result<Asked<'a>, Err
     ensures misuse { IsMisuse (map string_bytes words.entry.now)
         → IsErrAnd result (λ e. (kind_of e ≡ OutOfMemory) ⊎ IsMistake (kind_of e)) }
 {
+    match parsed(alloc, words) {
+        Ok(asked) => Ok(asked),
+        Err(error) => Err(completed(alloc, words, error)),
+    }
+}
+
+/// The same, with the errors of `clap` as they are.
+fn parsed<'a>(alloc: Global, words: &'a [String]) -> Result<Asked<'a>, Error>
+    ensures said { (saying : Saying) → Says (map string_bytes words.entry.now) saying
+        → MatchResult result (IsAsked saying) (λ e. kind_of e ≡ OutOfMemory) }
+    ensures can_be_done { IfOk result CanBeDone }
+    ensures misuse { IsMisuse (map string_bytes words.entry.now)
+        → IsErrAnd result (λ e. (kind_of e ≡ OutOfMemory) ⊎ IsMistake (kind_of e)) }
+{
     let mut program = program(alloc)?;
-    let matches = match program.try_get_matches_from_mut(words) {
-        Ok(matches) => matches,
-        Err(error) => return Err(completed(alloc, words, error)),
-    };
+    let matches = program.try_get_matches_from_mut(words)?;
     match asked_in(&matches) {
         Some(asked) => Ok(asked),
         None => Err(fault(alloc, &matches)),

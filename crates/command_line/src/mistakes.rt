@@ -15,6 +15,9 @@ const BEGIN: &str = "error: ";
 
 const END: &str = "\n\nFor more information, try '--help'.\n";
 
+/// The beginning of the usage.
+const USAGE: &str = "\n\nUsage: ";
+
 /// Returns an error of this kind in the words of a command, with the command's usage. Its kind is `OutOfMemory` if
 /// memory is missing.
 pub(crate) fn error_of(alloc: Global, command: &str, kind: ErrorKind, text: &str) -> Error
@@ -88,9 +91,13 @@ fn value_text(alloc: Global, name: &str, error: &Error) -> Result<Option<String>
     Ok(Some(text))
 }
 
-/// Returns what an error of `clap` without a usage says.
+/// Returns what an error of `clap` says, if it shows no usage.
 fn between(whole: &str) -> Option<&str> {
-    whole.strip_prefix(BEGIN)?.strip_suffix(END)
+    let text = whole.strip_prefix(BEGIN)?.strip_suffix(END)?;
+    if text.contains(USAGE) {
+        return None;
+    }
+    Some(text)
 }
 
 /// If this text says that a value is not valid for an option with a number, returns the text before the end of the

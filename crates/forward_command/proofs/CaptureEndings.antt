@@ -30,7 +30,7 @@ use Rattle.forward_command.proofs.Scripts.{fitting}
 use Rattle.forward_command.specs.CaptureForwards.{EndsRefused, HasNoPage, IsPage, IsScript, IsUnpaged, PrintsPage, WithholdsPage}
 
 -- an output that is not touched
-unchanged : (old : Option (List ℕ)) → Keeps old old
+pub unchanged : (old : Option (List ℕ)) → Keeps old old
 unchanged None = tt
 unchanged (Some xs) = refl
 
@@ -79,13 +79,13 @@ none-gathered reading captured skipped is = (sym is.0, is.1)
 -- and a script is that of the text
 fits-alone : (room : ℕ) (text : List ℕ) (frames : List Frame) (r : Result (List Frame) ScriptError) → script_of text ≡ r → script_within room text ≡ Ok frames → r ≡ Ok frames
 fits-alone room text frames (Err f) says is =
-    let no : ◌≡◌ {A = Result (List Frame) ScriptError} (Err f) (Ok frames) = sym (ap (fitting room text) says) ∙ is in cc no
+    let bad : ◌≡◌ {A = Result (List Frame) ScriptError} (Err f) (Ok frames) = sym (ap (fitting room text) says) ∙ is in cc bad
 fits-alone room text frames (Ok fs) says is = by-size (nat_lt room (length fs)) refl (sym (ap (fitting room text) says) ∙ is)
   where
     by-size : (b : Bool) → nat_lt room (length fs) ≡ b
         → ◌≡◌ {A = Result (List Frame) ScriptError} (if b then Err (TooMany (frame_line 1 room (lines_of text))) else Ok fs) (Ok frames)
         → ◌≡◌ {A = Result (List Frame) ScriptError} (Ok fs) (Ok frames)
-    by-size true is no = cc no
+    by-size true is bad = cc bad
     by-size false is same = same
 
 of-text : (text : List ℕ) (captured script frames : List Frame) → captured ≡ [] → script_within (room_after captured) text ≡ Ok frames → script ≡ captured ++ frames → script_of text ≡ Ok script

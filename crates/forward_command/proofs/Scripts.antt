@@ -1,15 +1,14 @@
 -- The line of a frame in a script, and a script within its room.
-use Rattle.std.proofs.Common.{◌≡◌, ◌≢◌, ◌∙◌, ℕ, suc, zero, ◌+◌, ◌-◌, ◌<◌, ◌≤◌, true, false, nat_lt, List, [], ◌∷◌, ◌++◌, Option, Some, None, unwrap_or, Result, Ok, Err, ap, refl, sym, subst, length}
+use Rattle.std.proofs.Common.{◌≡◌, ◌≢◌, ◌∙◌, arith, ℕ, suc, zero, ◌+◌, ◌-◌, ◌<◌, ◌≤◌, true, false, nat_lt, List, [], ◌∷◌, ◌++◌, Option, Some, None, unwrap_or, Result, Ok, Err, ap, refl, sym, subst, length}
 use Rattle.std.specs.Prelude.{Bool, not, ◌||◌, ◌==◌, if◌then◌else◌}
-use Rattle.std.proofs.lemmas.Bool.{le-ltb, lt-ltb}
+use Rattle.std.proofs.lemmas.Bool.{le-ltb, lt-ltb, ne_eqb}
 use Rattle.refusals.specs.declared.errors.ScriptError.{ScriptError}
 use Rattle.refusals.specs.declared.errors.ScriptError.TheVariants.{Fields, Port, Queue, Bytes, FrameLength, TooMany, Memory}
 use Rattle.text_lines.specs.Parts.{lines_of, says_something}
 use Rattle.wire_script.specs.Frame.{Frame}
 use Rattle.wire_script.specs.Script.{script_of}
 use Rattle.wire_script.specs.ScriptError.{◌>>=◌, Fails}
-use Rattle.forward_command.specs.Intakes.{frame_line, has_input, left_after, reads_beside, script_within}
-use Rattle.forward_command.specs.Words.{SourceFile}
+use Rattle.forward_command.specs.Intakes.{frame_line, left_after, script_within}
 
 -- a line without a frame
 pub silent : (k n : ℕ) (line : List ℕ) (lines : List (List ℕ)) → says_something line ≡ false → frame_line k n (line ∷ lines) ≡ frame_line (k + 1) n lines
@@ -26,9 +25,17 @@ here k (suc n) line lines is none = let bad : ⊥ = cc none in absurd bad
 -- the line of a frame before it
 pub later : (k n m : ℕ) (line : List ℕ) (lines : List (List ℕ)) → says_something line ≡ true → n ≡ m + 1 → frame_line k n (line ∷ lines) ≡ frame_line (k + 1) m lines
 unfolding frame_line
-later k zero m line lines is some = let bad : ⊥ = cc some in absurd bad
+later k zero m line lines is some = absurd (omega (arith, some))
 later k (suc n) m line lines is some =
-    ap (λ b. if b then frame_line (k + 1) n lines else frame_line (k + 1) (suc n) lines) is ∙ ap (λ i. frame_line (k + 1) i lines) (ap (λ i. i - 1) some)
+    let same : n ≡ m = omega (arith, some) in
+    let there : frame_line k (suc n) (line ∷ lines) ≡ frame_line (k + 1) n lines =
+    ap (λ b. if b then frame_line (k + 1) n lines else frame_line (k + 1) (suc n) lines) is in
+    there ∙ ap (λ i. frame_line (k + 1) i lines) same
+
+-- no line is left
+pub at-end : (k n : ℕ) → frame_line k n [] ≡ k
+unfolding frame_line
+at-end k n = refl
 
 -- the line is the frame
 pub stops : (k n : ℕ) (line : List ℕ) (lines : List (List ℕ)) → left_after line n ≡ None → frame_line k n (line ∷ lines) ≡ k
@@ -36,7 +43,9 @@ stops k n line lines is = by-line (says_something line) refl n is
   where
     by-line : (b : Bool) → says_something line ≡ b → (m : ℕ) → ◌≡◌ {A = Option ℕ} (if b then (if m == 0 then None else Some (m - 1)) else Some m) None → frame_line k m (line ∷ lines) ≡ k
     by-line true says zero none = here k zero line lines says refl
-    by-line true says (suc m) none = let bad : ⊥ = cc none in absurd bad
+    by-line true says (suc m) none =
+        let more : (suc m == 0) ≡ false = ne_eqb (suc m) 0 (λ e. omega (arith, e)) in
+        let lost : ◌≡◌ {A = Option ℕ} (Some (suc m - 1)) None = sym (ap (λ b. if b then None else Some (suc m - 1)) more) ∙ none in cc lost
     by-line false says m none = let bad : ⊥ = cc none in absurd bad
 
 -- or it is not
@@ -46,7 +55,11 @@ goes-on k n m line lines is = by-line (says_something line) refl n is
     by-line : (b : Bool) → says_something line ≡ b → (i : ℕ) → ◌≡◌ {A = Option ℕ} (if b then (if i == 0 then None else Some (i - 1)) else Some i) (Some m)
         → frame_line k i (line ∷ lines) ≡ frame_line (k + 1) m lines
     by-line true says zero some = let bad : ⊥ = cc some in absurd bad
-    by-line true says (suc i) some = later k (suc i) i line lines says refl ∙ ap (λ j. frame_line (k + 1) j lines) (ap (λ o. unwrap_or o i) some)
+    by-line true says (suc i) some =
+        let more : (suc i == 0) ≡ false = ne_eqb (suc i) 0 (λ e. omega (arith, e)) in
+        let one : ◌≡◌ {A = Option ℕ} (Some (suc i - 1)) (Some m) = sym (ap (λ b. if b then None else Some (suc i - 1)) more) ∙ some in
+        let same : suc i - 1 ≡ m = ap (λ o. unwrap_or o i) one in
+        later k (suc i) m line lines says (omega (arith, same))
     by-line false says i some = silent k i line lines says ∙ ap (λ j. frame_line (k + 1) j lines) (ap (λ o. unwrap_or o i) some)
 
 -- ---- a script within its room
@@ -74,9 +87,3 @@ pub fits : (room : ℕ) (text : List ℕ) (frames : List Frame) → script_of te
 fits room text frames is few =
     let t : nat_lt room (length frames) ≡ false = le-ltb room (length frames) few in
     ap (fitting room text) is ∙ ap (λ b. if b then Err (TooMany (frame_line 1 room (lines_of text))) else Ok frames) t
-
--- ---- what is read
-
-pub reads-beside : (is_terminal : Bool) (sources : List SourceFile) → (length sources == 0 || not (is_terminal || has_input sources)) ≡ reads_beside is_terminal sources
-reads-beside is_terminal [] = refl
-reads-beside is_terminal (s ∷ ss) = refl
