@@ -1,13 +1,17 @@
 -- What clap makes of `from-capture` and `to-capture` and their places.
-use Rattle.std.proofs.Common.{◌≡◌, ◌∙◌, ◌+◌, ap, ap₂, sym, refl, arith, ℕ, suc, zero, true, List, [], ◌∷◌, codes, Option, Some, None, option_map}
+use Rattle.std.proofs.Common.{◌≡◌, ◌∙◌, ◌+◌, ap, ap₂, sym, refl, arith, ℕ, suc, zero, Bool, true, false, List, [], ◌∷◌, ◌++◌, codes, Option, Some, None, option_map}
 use Rattle.std.specs.Prelude.{◌<◌, IsSomeAnd, decimal, Result, Ok, Err}
 use Rattle.std.specs.Str.Parse.{ExplainsUnsignedError, HasUnsignedDigitsIfOk, ParsesUnsigned}
 use Rattle.std.proofs.lemmas.Fmt.{decimal_digit, parse-decimal}
 use Rattle.clap.specs.Words.{App, ReadsOne, Row, Text, one_of, one_text, rows_of, subcommand_of, takes}
+use Rattle.clap.specs.Values.{bool_text}
 use Rattle.clap.specs.declared.parser.matches.Found.{Found}
 use Rattle.clap.proofs.OnLiterals.{clap_on_literals}
 use Rattle.limits.specs.declared.profile.TheConstants.{MOST_PAIRS, PORTS}
 use Rattle.command_line.specs.CaptureWords.{HasFromCapture, HasPlace, HasToCapture, SaysFromCapture, SaysToCapture}
+use Rattle.capture.specs.declared.options.ReadOptions.{ReadOptions}
+use Rattle.command_line.specs.OptionWords.{flag_words}
+use Rattle.command_line.specs.ReadingWords.{IsLimit}
 use Rattle.command_line.specs.CommandLine.{Choices, IsProgram, program_app}
 use Rattle.command_line.proofs.CommandLine.{is_there, rows_in, text_is}
 
@@ -67,54 +71,68 @@ has_place rows id n low is = record { value = is ∙ ap (λ (t : Text). Some t) 
 
 -- ---- from a capture
 
-abbrev from_words : ℕ → ℕ → List Text
-from_words port queue = codes "from-capture" ∷ digit port ∷ digit queue ∷ []
+abbrev from_words : Bool → ℕ → ℕ → List Text
+from_words skip port queue = codes "from-capture" ∷ (flag_words (codes "--skip") skip ++ digit port ∷ digit queue ∷ [])
 
-from_words_are : (port queue : ℕ) → port < PORTS → queue < MOST_PAIRS → codes "from-capture" ∷ decimal port ∷ decimal queue ∷ [] ≡ from_words port queue
-from_words_are port queue port_is queue_is =
-    ap₂ (λ (p q : Text). codes "from-capture" ∷ p ∷ q ∷ []) (decimal_digit port (omega (arith, port_is))) (decimal_digit queue (omega (arith, queue_is)))
+from_words_are : (skip : Bool) (port queue : ℕ) → port < PORTS → queue < MOST_PAIRS
+    → codes "from-capture" ∷ (flag_words (codes "--skip") skip ++ decimal port ∷ decimal queue ∷ []) ≡ from_words skip port queue
+from_words_are skip port queue port_is queue_is =
+    ap₂ (λ (p q : Text). codes "from-capture" ∷ (flag_words (codes "--skip") skip ++ p ∷ q ∷ []))
+    (decimal_digit port (omega (arith, port_is))) (decimal_digit queue (omega (arith, queue_is)))
 
-abbrev TakesFrom : Choices → Choices → ℕ → ℕ → Type 0
-TakesFrom rings formats port queue = takes (program_app rings formats) (from_words port queue) ≡ true
+abbrev TakesFrom : Choices → Choices → Bool → ℕ → ℕ → Type 0
+TakesFrom rings formats skip port queue = takes (program_app rings formats) (from_words skip port queue) ≡ true
 
-takes_from : (rings formats : Choices) (port queue : ℕ) → port < PORTS → queue < MOST_PAIRS → TakesFrom rings formats port queue
+takes_from : (rings formats : Choices) (skip : Bool) (port queue : ℕ) → port < PORTS → queue < MOST_PAIRS → TakesFrom rings formats skip port queue
 unfolding clap_on_literals
-takes_from rings formats port queue port_is queue_is =
-    each-place (TakesFrom rings formats) port queue port_is queue_is refl refl refl refl refl refl refl refl refl refl refl refl refl refl refl refl
+takes_from rings formats true port queue port_is queue_is =
+    each-place (TakesFrom rings formats true) port queue port_is queue_is refl refl refl refl refl refl refl refl refl refl refl refl refl refl refl refl
+takes_from rings formats false port queue port_is queue_is =
+    each-place (TakesFrom rings formats false) port queue port_is queue_is refl refl refl refl refl refl refl refl refl refl refl refl refl refl refl refl
 
+-- the values of the port, the queue, `--skip` and `--limit`
 abbrev Places : Type 0
-Places = Option Text × Option Text
+Places = (Option Text × Option Text) × (Option Text × Option Text)
 
 abbrev places_of : List Row → Places
-places_of rows = (one_of (codes "port") rows, one_of (codes "queue") rows)
+places_of rows = ((one_of (codes "port") rows, one_of (codes "queue") rows), (one_of (codes "skip") rows, one_of (codes "limit") rows))
 
-abbrev FindsFrom : Choices → Choices → ℕ → ℕ → Type 0
-FindsFrom rings formats port queue =
-    option_map {U = Text × Places} (λ p. (p.0, places_of p.1)) (subcommand_of (program_app rings formats) (from_words port queue))
-    ≡ Some (codes "from-capture", (Some (digit port), Some (digit queue)))
+abbrev FindsFrom : Choices → Choices → Bool → ℕ → ℕ → Type 0
+FindsFrom rings formats skip port queue =
+    option_map {U = Text × Places} (λ p. (p.0, places_of p.1)) (subcommand_of (program_app rings formats) (from_words skip port queue))
+    ≡ Some (codes "from-capture", ((Some (digit port), Some (digit queue)), (Some (bool_text skip), None)))
 
-finds_from : (rings formats : Choices) (port queue : ℕ) → port < PORTS → queue < MOST_PAIRS → FindsFrom rings formats port queue
+finds_from : (rings formats : Choices) (skip : Bool) (port queue : ℕ) → port < PORTS → queue < MOST_PAIRS → FindsFrom rings formats skip port queue
 unfolding clap_on_literals
-finds_from rings formats port queue port_is queue_is =
-    each-place (FindsFrom rings formats) port queue port_is queue_is refl refl refl refl refl refl refl refl refl refl refl refl refl refl refl refl
+finds_from rings formats true port queue port_is queue_is =
+    each-place (FindsFrom rings formats true) port queue port_is queue_is refl refl refl refl refl refl refl refl refl refl refl refl refl refl refl refl
+finds_from rings formats false port queue port_is queue_is =
+    each-place (FindsFrom rings formats false) port queue port_is queue_is refl refl refl refl refl refl refl refl refl refl refl refl refl refl refl refl
 
-pub from_taken : (app : App) (words : List Text) (port queue : ℕ) → IsProgram app → SaysFromCapture words port queue → takes app words ≡ true
-from_taken app words port queue program says =
-    ap (λ (a : App). takes a words) program.app_is ∙ (ap (takes (program_app program.rings program.formats)) (says.words_are ∙ from_words_are port queue says.port_is says.queue_is)
-    ∙ takes_from program.rings program.formats port queue says.port_is says.queue_is)
+pub from_taken : (app : App) (words : List Text) (port queue : ℕ) (reading : ReadOptions) → IsProgram app → SaysFromCapture words port queue reading → takes app words ≡ true
+from_taken app words port queue reading program says =
+    ap (λ (a : App). takes a words) program.app_is
+    ∙ (ap (takes (program_app program.rings program.formats)) (says.words_are ∙ from_words_are reading.skip port queue says.port_is says.queue_is)
+    ∙ takes_from program.rings program.formats reading.skip port queue says.port_is says.queue_is)
 
-pub from_found : (app : App) (words : List Text) (port queue : ℕ) → IsProgram app → SaysFromCapture words port queue
-    → (rows : List Row) × (subcommand_of app words ≡ Some (codes "from-capture", rows)) × HasFromCapture rows port queue
-from_found app words port queue program says =
+no-limit : (rows : List Row) (limit : Option ℕ) → limit ≡ None → one_of (codes "limit") rows ≡ None → (one_of (codes "limit") rows ≡ option_map decimal limit) × IsLimit limit
+no-limit rows None none is = (is, tt)
+no-limit rows (Some n) none is = let bad : ⊥ = cc none in absurd bad
+
+pub from_found : (app : App) (words : List Text) (port queue : ℕ) (reading : ReadOptions) → IsProgram app → SaysFromCapture words port queue reading
+    → (rows : List Row) × (subcommand_of app words ≡ Some (codes "from-capture", rows)) × HasFromCapture rows port queue reading
+from_found app words port queue reading program says =
     let same = ap (λ (a : App). subcommand_of a words) program.app_is
-    ∙ ap (subcommand_of (program_app program.rings program.formats)) (says.words_are ∙ from_words_are port queue says.port_is says.queue_is) in
-    let found = rows_in places_of (subcommand_of app words) (codes "from-capture") (Some (digit port), Some (digit queue))
-    (ap (option_map {U = Text × Places} (λ p. (p.0, places_of p.1))) same ∙ finds_from program.rings program.formats port queue says.port_is says.queue_is) in (
+    ∙ ap (subcommand_of (program_app program.rings program.formats)) (says.words_are ∙ from_words_are reading.skip port queue says.port_is says.queue_is) in
+    let found = rows_in places_of (subcommand_of app words) (codes "from-capture") ((Some (digit port), Some (digit queue)), (Some (bool_text reading.skip), None))
+    (ap (option_map {U = Text × Places} (λ p. (p.0, places_of p.1))) same ∙ finds_from program.rings program.formats reading.skip port queue says.port_is says.queue_is) in
+    let limit = no-limit found.0 reading.limit says.unlimited (ap (λ (v : Places). v.1.1) found.2) in (
       found.0,
       found.1,
       record {
-        has_port = has_place found.0 (codes "port") port (port-is-place port says.port_is) (ap (λ (v : Places). v.0) found.2);
-        has_queue = has_place found.0 (codes "queue") queue says.queue_is (ap (λ (v : Places). v.1) found.2);
+        has_port = has_place found.0 (codes "port") port (port-is-place port says.port_is) (ap (λ (v : Places). v.0.0) found.2);
+        has_queue = has_place found.0 (codes "queue") queue says.queue_is (ap (λ (v : Places). v.0.1) found.2);
+        has_reading = record { skip = ap (λ (v : Places). v.1.0) found.2; limit = limit.0; fits = limit.1 };
         port_is = says.port_is;
       },
     )

@@ -28,6 +28,7 @@ use Rattle.clap.proofs.ValueTestLemmas.{Accepts-accepts}
 use Rattle.clap.proofs.WalkLemmas.{find_row, first_value-rows, one_text-rows}
 use Rattle.command_line.specs.CommandLine.{AreMistakes, Choices, IsMistake, IsMisuse, IsProgram, program_app}
 use Rattle.command_line.specs.OptionWords.{HasFlag, HasNumber}
+use Rattle.command_line.specs.ReadingWords.{IsLimit}
 use Rattle.command_line.specs.ScheduleWords.{by_words, is_said}
 
 -- ---- the program
@@ -175,6 +176,14 @@ pub number_is : (found : Found) (id : Text) (n : ℕ) (r : Option ℕ) → HasNu
     → ((text : Text) → one_text found id ≡ Some text
     → ReadsOne (λ bs x. ParsesUnsigned 32 10 bs x × ExplainsUnsignedError 10 bs x × HasUnsignedDigitsIfOk bs x) text r) → IsSomeAnd r (λ m. m ≡ n)
 number_is found id n r has reads = is_there n r (reads_number n r has.fits (reads (decimal n) (text_is found id (decimal n) has.value)))
+
+-- the number of an option that may be left out
+pub limit_is : (found : Found) (id : Text) (limit r : Option ℕ) → one_of id (rows_of found) ≡ option_map decimal limit → IsLimit limit
+    → (one_text found id ≡ None → r ≡ None)
+    → ((text : Text) → one_text found id ≡ Some text
+    → ReadsOne (λ bs x. ParsesUnsigned 32 10 bs x × ExplainsUnsignedError 10 bs x × HasUnsignedDigitsIfOk bs x) text r) → r ≡ limit
+limit_is found id None r has fits none reads = none (one_text-rows found id ∙ has)
+limit_is found id (Some n) r has fits none reads = reads_number n r fits (reads (decimal n) (text_is found id (decimal n) has))
 
 -- and what `get_flag` does of a flag
 reads_flag : (b read : Bool) (o : Option Text) → (o ≡ Some (codes "true") → read ≡ true) → (o ≡ Some (codes "false") → read ≡ false)

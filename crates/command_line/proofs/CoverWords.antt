@@ -1,5 +1,5 @@
 -- What clap makes of `schedules --cover` and its options.
-use Rattle.std.proofs.Common.{◌≡◌, refl, arith, true, false, List, [], ◌∷◌, codes, Some, None}
+use Rattle.std.proofs.Common.{◌≡◌, refl, arith, Bool, true, false, List, [], ◌∷◌, codes, Some, None}
 use Rattle.std.specs.Prelude.{is_some}
 use Rattle.clap.specs.Words.{App, Row, Text, subcommand_of, takes}
 use Rattle.cover_command.specs.declared.request.CoverRequest.{CoverRequest}
@@ -13,8 +13,8 @@ use Rattle.command_line.proofs.OptionLists.{AreLawful, HasOptions, HoldsOfEach, 
 use Rattle.command_line.proofs.ScheduleWords.{is_command, shape}
 
 -- its options, with what the words say: none of those for drawn lists
-abbrev options : CoverRequest → List Given
-options request =
+abbrev options : CoverRequest → Bool → List Given
+options request explained =
     number (codes "seed") 4294967295 [] None
     ∷ number (codes "moves") 4294967295 [] None
     ∷ number (codes "count") 4294967295 (codes "1" ∷ []) None
@@ -29,15 +29,16 @@ options request =
     ∷ flag (codes "json") (expects_json request.expect)
     ∷ flag (codes "registers") (expects_registers request.expect)
     ∷ flag (codes "device-only-real") request.device_only
+    ∷ flag (codes "explain") explained
     ∷ []
 
-has_options : (request : CoverRequest) → HasOptions (codes "schedules") shape (options request)
-has_options request = record { command = is_command; among = refl; distinct = refl; valid = λ h. refl }
+has_options : (request : CoverRequest) (explained : Bool) → HasOptions (codes "schedules") shape (options request explained)
+has_options request explained = record { command = is_command; among = refl; distinct = refl; valid = λ h. refl }
 
-are_lawful : (request : CoverRequest) → AreLawful (options request)
-are_lawful request = (tt, (tt, (tt, (tt, (tt, (tt, (tt, (tt, (tt, (tt, (tt, (tt, (tt, (tt, tt))))))))))))))
+are_lawful : (request : CoverRequest) (explained : Bool) → AreLawful (options request explained)
+are_lawful request explained = (tt, (tt, (tt, (tt, (tt, (tt, (tt, (tt, (tt, (tt, (tt, (tt, (tt, (tt, (tt, tt)))))))))))))))
 
-words_are : (words : List Text) (request : CoverRequest) → SaysCover words request → words ≡ codes "schedules" ∷ all_words (options request)
+words_are : (words : List Text) (request : CoverRequest) (says : SaysCover words request) → words ≡ codes "schedules" ∷ all_words (options request says.explained)
 words_are words request says = says.words_are
 
 -- each has its value, and stands or doesn't
@@ -51,12 +52,12 @@ each_read rules before behind g among first last = (given_value rules before beh
 
 pub cover_taken : (app : App) (words : List Text) (request : CoverRequest) → IsProgram app → SaysCover words request → takes app words ≡ true
 cover_taken app words request program says =
-    options_taken app words (codes "schedules") shape (options request) program (has_options request) (are_lawful request) (words_are words request says)
+    options_taken app words (codes "schedules") shape (options request says.explained) program (has_options request says.explained) (are_lawful request says.explained) (words_are words request says)
 
 pub cover_found : (app : App) (words : List Text) (request : CoverRequest) → IsProgram app → SaysCover words request
     → (rows : List Row) × (subcommand_of app words ≡ Some (codes "schedules", rows)) × HasCover rows request
 cover_found app words request program says =
-    let found = options_hold IsRead each_read app words (codes "schedules") shape (options request) program (has_options request) (are_lawful request)
+    let found = options_hold IsRead each_read app words (codes "schedules") shape (options request says.explained) program (has_options request says.explained) (are_lawful request says.explained)
     (words_are words request says) in
     let none : Given = flag [] false in (
       found.0,

@@ -1,5 +1,5 @@
 -- From what the words ask for to how the run ends.
-use Rattle.std.proofs.Common.{◌≡◌, inl, inr, refl, ℕ, List, Option, Some, subst}
+use Rattle.std.proofs.Common.{◌≡◌, inl, inr, refl, ℕ, Bool, List, Option, Some, subst}
 use Rattle.std.specs.Prelude.{Result}
 use Rattle.std.specs.Io.KnownBytes.{Keeps}
 use Rattle.commands.specs.declared.answering.TheConstants.{DONE, REFUSED}
@@ -17,6 +17,8 @@ use Rattle.commands.specs.declared.refusal.Refusal.{Refusal}
 use Rattle.forward_command.proofs.Endings.{kept}
 use Rattle.forwarder.specs.declared.config.Config.{Config}
 use Rattle.forward_command.specs.declared.printing.Printing.{Printing}
+use Rattle.capture.specs.declared.options.ReadOptions.{ReadOptions}
+use Rattle.forward_command.specs.Intakes.{FrameIntake}
 use Rattle.forward_command.specs.Words.{PortFile, SourceFile}
 use Rattle.forward_command.specs.Streams.{Outlet, outlet}
 use Rattle.command_line.specs.Forwarding.{EndsForwarding}
@@ -59,29 +61,34 @@ undone plan text old new e = let bad : ⊥ = cc e in absurd bad
 pub replay-kept : (plan : QueuePlan) (text : List ℕ) (old new : Option (List ℕ)) → Keeps old new → EndsReplay plan text REFUSED old new
 replay-kept plan text old new kept = record { done = undone plan text old new; either = inr refl; faulty = λ k f. (refl, kept); no_queues = λ no. (refl, kept) }
 
-pub forward-ends : (given config : Config) (shown printing : Printing) (wires : List PortFile) (sources : List SourceFile) (input : Option (List ℕ)) (status : ℕ)
-    (old new : Option (List ℕ)) → (given ≡ config) × (shown ≡ printing) → EndsForwarding given (outlet shown wires) sources input status old new
-    → EndsForwarding config (outlet printing wires) sources input status old new
-forward-ends given config shown printing wires sources input status old new is ends =
-    subst (λ (c : Config). EndsForwarding c (outlet printing wires) sources input status old new) is.0
-    (subst (λ (p : Printing). EndsForwarding given (outlet p wires) sources input status old new) is.1 ends)
+pub forward-ends : (given config : Config) (shown printing : Printing) (wires : List PortFile) (intake : FrameIntake) (input : Option (List ℕ)) (status : ℕ)
+    (old new : Option (List ℕ)) → (given ≡ config) × (shown ≡ printing) → EndsForwarding given (outlet shown wires) intake input status old new
+    → EndsForwarding config (outlet printing wires) intake input status old new
+forward-ends given config shown printing wires intake input status old new is ends =
+    subst (λ (c : Config). EndsForwarding c (outlet printing wires) intake input status old new) is.0
+    (subst (λ (p : Printing). EndsForwarding given (outlet p wires) intake input status old new) is.1 ends)
 
 -- a refusal that prints nothing ends it, whatever is forwarded
-pub forward-kept : (config : Config) (to : Outlet) (sources : List SourceFile) (input old new : Option (List ℕ)) → Keeps old new
-    → EndsForwarding config to sources input REFUSED old new
-forward-kept config to sources input old new keeps = record {
+pub forward-kept : (config : Config) (to : Outlet) (intake : FrameIntake) (input old new : Option (List ℕ)) → Keeps old new
+    → EndsForwarding config to intake input REFUSED old new
+forward-kept config to intake input old new keeps = record {
   script = λ none whole text known. kept config to.printing text old new keeps;
   captured = λ e. let bad : ⊥ = cc e in absurd bad;
   refused = λ e. inl keeps;
 }
 
 -- with other names of the same files
-pub forward-of : (config : Config) (printing : Printing) (held-wires wires : List PortFile) (held sources : List SourceFile) (input : Option (List ℕ)) (status : ℕ)
-    (old new : Option (List ℕ)) → held-wires ≡ wires → held ≡ sources → EndsForwarding config (outlet printing held-wires) held input status old new
-    → EndsForwarding config (outlet printing wires) sources input status old new
-forward-of config printing held-wires wires held sources input status old new same-wires same ends =
-    subst (λ (ss : List SourceFile). EndsForwarding config (outlet printing wires) ss input status old new) same
+pub forward-of : (config : Config) (printing : Printing) (held-wires wires : List PortFile) (held intake : FrameIntake) (input : Option (List ℕ)) (status : ℕ)
+    (old new : Option (List ℕ)) → held-wires ≡ wires → held ≡ intake → EndsForwarding config (outlet printing held-wires) held input status old new
+    → EndsForwarding config (outlet printing wires) intake input status old new
+forward-of config printing held-wires wires held intake input status old new same-wires same ends =
+    subst (λ (i : FrameIntake). EndsForwarding config (outlet printing wires) i input status old new) same
     (subst (λ (ws : List PortFile). EndsForwarding config (outlet printing ws) held input status old new) same-wires ends)
+
+-- an intake, from its parts
+pub intake-is : (held sources : List SourceFile) (given reading : ReadOptions) (is_terminal : Bool) → held ≡ sources → given ≡ reading
+    → ◌≡◌ {A = FrameIntake} (record { sources = held; reading = given; is_terminal = is_terminal }) (record { sources = sources; reading = reading; is_terminal = is_terminal })
+intake-is held sources given reading is_terminal same is = rw (same, is) refl
 
 -- of lists, the same
 pub schedules-ends : (given request : ScheduleRequest) (status : ℕ) (old new : Option (List ℕ)) → given ≡ request → EndsSchedules given status old new

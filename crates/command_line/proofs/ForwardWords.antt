@@ -14,7 +14,8 @@ use Rattle.command_line.specs.OptionWords.{is_head}
 use Rattle.command_line.specs.FileWords.{FileOptions, HasFiles}
 use Rattle.forward_command.specs.Words.{IsSource, IsWireFile, PortFile, SourceFile, source_word, wire_file_word}
 use Rattle.command_line.proofs.CommandLine.{IsPlain, is_plain}
-use Rattle.command_line.proofs.Options.{Given}
+use Rattle.command_line.proofs.Limits.{limit_given, limit_lawful, limit_value, limit_words_are}
+use Rattle.command_line.proofs.Options.{Given, words_of}
 use Rattle.command_line.proofs.Options.Given.{files as file_option, flag, number}
 use Rattle.command_line.proofs.OptionLists.{AreLawful, HasOptions, IsCommand, IsSaid, all_words, is_said, options_found, options_taken, said_of}
 
@@ -25,15 +26,18 @@ shape = let none : Choices = record { ref_ptr = (0, 0); now = [] } in slice_inde
 -- ---- its options, with what the words say
 
 -- those behind the numbers
-abbrev plain_options : Config → Printing → FileOptions → List Given
-plain_options config printing files =
+abbrev plain_options : Config → Printing → Bool → FileOptions → List Given
+plain_options config printing explained files =
     flag (codes "drop") config.drop_en
     ∷ flag (codes "no-retry") (not config.retry)
     ∷ flag (codes "head") (is_head config.completion)
     ∷ flag (codes "quiet") printing.quiet
     ∷ flag (codes "json") printing.json
     ∷ flag (codes "progress") printing.progress
+    ∷ flag (codes "explain") explained
     ∷ file_option (codes "capture") (map source_word files.sources)
+    ∷ flag (codes "skip") files.reading.skip
+    ∷ limit_given files.reading.limit
     ∷ file_option (codes "wire-capture") (map wire_file_word files.wires)
     ∷ []
 
@@ -47,7 +51,7 @@ options words config printing files says =
     ∷ number (codes "rs-every") 4294967295 (codes "32" ∷ []) (said_of _ _ _ _ _ says.says_rs_every)
     ∷ number (codes "workers") 4294967295 (codes "1" ∷ []) (said_of _ _ _ _ _ says.says_workers)
     ∷ number (codes "turns") 4294967295 (codes "0" ∷ []) (said_of _ _ _ _ _ says.says_turns)
-    ∷ plain_options config printing files
+    ∷ plain_options config printing says.explained files
 
 is_command : (rings formats : Choices) → IsCommand rings formats (codes "forward") shape
 unfolding clap_on_literals
@@ -99,17 +103,22 @@ wires_plain (w ∷ ws) are =
 are_lawful : (words : List Text) (config : Config) (printing : Printing) (files : FileOptions) (says : SaysForward words config printing files) → AreLawful (options words config printing files says)
 are_lawful words config printing files says =
     let are = saying words config printing files says in
-    (are.pairs.lawful, (are.ring.lawful, (are.buffers.lawful, (are.bsize.lawful, (are.batch.lawful, (are.rs_every.lawful, (are.workers.lawful, (are.turns.lawful, (tt, (tt, (tt, (tt, (tt, (tt, (sources_plain files.sources says.are_files.sources, (wires_plain files.wires says.are_files.wires, tt))))))))))))))))
+    (are.pairs.lawful, (are.ring.lawful, (are.buffers.lawful, (are.bsize.lawful, (are.batch.lawful, (are.rs_every.lawful, (are.workers.lawful, (are.turns.lawful, (tt, (tt, (tt, (tt, (tt, (tt, (tt, (sources_plain files.sources says.are_files.sources, (tt, (limit_lawful files.reading.limit says.are_files.limit, (wires_plain files.wires says.are_files.wires, tt)))))))))))))))))))
 
 words_are : (words : List Text) (config : Config) (printing : Printing) (files : FileOptions) (says : SaysForward words config printing files) → words ≡ codes "forward" ∷ all_words (options words config printing files says)
 words_are words config printing files says =
     let are = saying words config printing files says in
     let both : (a b c d : List Text) → a ≡ b → c ≡ d → a ++ c ≡ b ++ d = λ a b c d. ap₂ (λ (x y : List Text). x ++ y) in
-    let flags : List Text = all_words (plain_options config printing files) in
+    let flags : List Text → List Text = λ (limit : List Text). words_of (flag (codes "drop") config.drop_en)
+    ++ (words_of (flag (codes "no-retry") (not config.retry)) ++ (words_of (flag (codes "head") (is_head config.completion))
+    ++ (words_of (flag (codes "quiet") printing.quiet) ++ (words_of (flag (codes "json") printing.json)
+    ++ (words_of (flag (codes "progress") printing.progress) ++ (words_of (flag (codes "explain") says.explained)
+    ++ (words_of (file_option (codes "capture") (map source_word files.sources)) ++ (words_of (flag (codes "skip") files.reading.skip)
+    ++ (limit ++ words_of (file_option (codes "wire-capture") (map wire_file_word files.wires))))))))))) in
     says.words_are
     ∙ ap (λ (a : List Text). codes "forward" ∷ a)
     (both _ _ _ _ are.pairs.words_are (both _ _ _ _ are.ring.words_are (both _ _ _ _ are.buffers.words_are (both _ _ _ _ are.bsize.words_are
-    (both _ _ _ _ are.batch.words_are (both _ _ _ _ are.rs_every.words_are (both _ _ _ _ are.workers.words_are (ap (λ (a : List Text). a ++ flags) are.turns.words_are))))))))
+    (both _ _ _ _ are.batch.words_are (both _ _ _ _ are.rs_every.words_are (both _ _ _ _ are.workers.words_are (ap₂ (λ (a b : List Text). a ++ flags b) are.turns.words_are (limit_words_are files.reading.limit)))))))))
 
 -- ---- what clap makes of them
 
@@ -143,7 +152,15 @@ forward_found app words config printing files program says =
         json = found.2 12 none (omega arith);
         progress = found.2 13 none (omega arith);
       },
-      record { sources = found.2 14 none (omega arith); wires = found.2 15 none (omega arith) },
+      record {
+        sources = found.2 15 none (omega arith);
+        reading = record {
+          skip = found.2 16 none (omega arith);
+          limit = found.2 17 none (omega arith) ∙ limit_value files.reading.limit says.are_files.limit;
+          fits = says.are_files.limit;
+        };
+        wires = found.2 18 none (omega arith);
+      },
     )
 
 -- a configuration, from its parts

@@ -5,6 +5,7 @@ pub mod OnceWords
 mod OptionRows
 mod Options
 mod OptionLists
+mod Limits
 pub mod ReplayWords
 mod RequestParts
 mod SaidWords

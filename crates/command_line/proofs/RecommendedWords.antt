@@ -31,6 +31,7 @@ options words request says =
     ∷ flag (codes "json") (expects_json request.expect)
     ∷ flag (codes "registers") (expects_registers request.expect)
     ∷ flag (codes "device-only-real") request.plan.device_only
+    ∷ flag (codes "explain") says.explained
     ∷ []
 
 has_options : (words : List Text) (request : ScheduleRequest) (says : SaysRecommended words request) → HasOptions (codes "schedules") shape (options words request says)
@@ -51,14 +52,14 @@ saying words request says = record {
 are_lawful : (words : List Text) (request : ScheduleRequest) (says : SaysRecommended words request) → AreLawful (options words request says)
 are_lawful words request says =
     let are = saying words request says in
-    (tt, (tt, (tt, (tt, (tt, (tt, (are.ring.lawful, (are.pairs.lawful, (tt, (tt, (tt, (tt, (tt, (tt, tt))))))))))))))
+    (tt, (tt, (tt, (tt, (tt, (tt, (are.ring.lawful, (are.pairs.lawful, (tt, (tt, (tt, (tt, (tt, (tt, (tt, tt)))))))))))))))
 
 words_are : (words : List Text) (request : ScheduleRequest) (says : SaysRecommended words request) → words ≡ codes "schedules" ∷ all_words (options words request says)
 words_are words request says =
     let are = saying words request says in
     let begins : List Text = words_of (flag (codes "off") (not request.plan.enabled)) in
     let head : List Text = words_of (flag (codes "head") (is_head request.plan.completion)) in
-    let behind : List Text = begins ++ (head ++ last_words request.expect request.plan.device_only) in
+    let behind : List Text = begins ++ (head ++ last_words request.expect request.plan.device_only says.explained) in
     says.words_are
     ∙ ap (λ (l : List Text). codes "schedules" ∷ codes "--recommended" ∷ l)
     (ap₂ (λ (a b : List Text). a ++ b) are.ring.words_are (ap (λ (l : List Text). l ++ behind) are.pairs.words_are))

@@ -60,6 +60,7 @@ options words plan says =
     ∷ flag (codes "json") plan.shown.json
     ∷ flag (codes "registers") plan.shown.registers
     ∷ optional (codes "picture") (codes "each") (picture_said plan.shown.pictures)
+    ∷ flag (codes "explain") says.explained
     ∷ []
 
 is_command : (rings formats : Choices) → IsCommand rings formats (codes "replay") shape
@@ -80,16 +81,18 @@ unfolding digits
 is_pairs words plan says = is_said (codes "pairs") 4294967295 1 (codes "1") says.pairs plan.pairs (omega arith) (omega arith) refl says.says_pairs
 
 are_lawful : (words : List Text) (plan : QueuePlan) (says : SaysReplay words plan) → AreLawful (options words plan says)
-are_lawful words plan says = ((is_ring words plan says).lawful, ((is_pairs words plan says).lawful, (tt, (tt, (tt, (tt, (tt, (picture_lawful plan.shown.pictures, tt))))))))
+are_lawful words plan says = ((is_ring words plan says).lawful, ((is_pairs words plan says).lawful, (tt, (tt, (tt, (tt, (tt, (picture_lawful plan.shown.pictures, (tt, tt)))))))))
 
 words_are : (words : List Text) (plan : QueuePlan) (says : SaysReplay words plan) → words ≡ codes "replay" ∷ all_words (options words plan says)
 words_are words plan says =
     let flags : List Text = words_of (flag (codes "off") (not plan.enabled))
     ++ (words_of (flag (codes "head") (is_head plan.completion)) ++ (words_of (flag (codes "lists") plan.lists)
-    ++ (words_of (flag (codes "json") plan.shown.json) ++ (words_of (flag (codes "registers") plan.shown.registers) ++ picture_words plan.shown.pictures)))) in
+    ++ (words_of (flag (codes "json") plan.shown.json) ++ (words_of (flag (codes "registers") plan.shown.registers)
+    ++ (picture_words plan.shown.pictures ++ words_of (flag (codes "explain") says.explained)))))) in
     let before : List Text → List Text = λ (drawn : List Text). words_of (flag (codes "off") (not plan.enabled))
     ++ (words_of (flag (codes "head") (is_head plan.completion)) ++ (words_of (flag (codes "lists") plan.lists)
-    ++ (words_of (flag (codes "json") plan.shown.json) ++ (words_of (flag (codes "registers") plan.shown.registers) ++ drawn)))) in
+    ++ (words_of (flag (codes "json") plan.shown.json) ++ (words_of (flag (codes "registers") plan.shown.registers)
+    ++ (drawn ++ words_of (flag (codes "explain") says.explained)))))) in
     says.words_are
     ∙ (ap₂ (λ (a b : List Text). codes "replay" ∷ (a ++ (b ++ flags))) (is_ring words plan says).words_are (is_pairs words plan says).words_are
     ∙ ap (λ (drawn : List Text). codes "replay" ∷ (words_of (ring_given words plan says) ++ (words_of (pairs_given words plan says) ++ before drawn))) (picture_words_are plan.shown.pictures))

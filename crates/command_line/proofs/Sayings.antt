@@ -13,6 +13,7 @@ use Rattle.commands.specs.declared.answering.TheConstants.{REFUSED}
 use Rattle.commands.specs.declared.decode.Form.{Form}
 use Rattle.commands.specs.declared.replay.QueuePlan.{QueuePlan}
 use Rattle.commands.specs.declared.request.Request.{Request}
+use Rattle.capture.specs.declared.options.ReadOptions.{ReadOptions}
 use Rattle.cover_command.specs.Covers.{EndsCover}
 use Rattle.cover_command.specs.declared.request.CoverRequest.{CoverRequest}
 use Rattle.forward_command.specs.declared.printing.Printing.{Printing}
@@ -20,9 +21,10 @@ use Rattle.forwarder.specs.declared.config.Config.{Config}
 use Rattle.schedule_command.specs.Lists.{EndsSchedules}
 use Rattle.schedule_command.specs.declared.request.ScheduleRequest.{ScheduleRequest}
 use Rattle.command_line.specs.CommandLine.{IsMisuse, IsProgram, SaysForward}
-use Rattle.command_line.specs.FileWords.{FileOptions}
+use Rattle.command_line.specs.FileWords.{FileOptions, intake_of}
 use Rattle.command_line.specs.Forwarding.{EndsForwarding}
 use Rattle.command_line.specs.Sayings.{EndsSaid, Holds, IsAsked, IsUnshown, Says, Saying, forward_shows, is_shown, name_of}
+use Rattle.forward_command.specs.Requests.{may_skip}
 use Rattle.forward_command.specs.Streams.{outlet, streamed_port}
 use Rattle.command_line.specs.Sayings.Saying.{once, decode, replay, forward, from_capture, to_capture, schedules, cover}
 use Rattle.command_line.specs.Sayings.IsUnshown.{is_misuse, asks}
@@ -44,7 +46,7 @@ taken app words (once digits) program says = once_taken app words digits program
 taken app words (decode form digits) program says = decode_taken app words form digits program says
 taken app words (replay plan) program says = replay_taken app words plan program says
 taken app words (forward config printing files) program says = forward_taken app words config printing files program says
-taken app words (from_capture port queue) program says = from_taken app words port queue program says
+taken app words (from_capture port queue reading) program says = from_taken app words port queue reading program says
 taken app words (to_capture port) program says = to_taken app words port program says
 taken app words (schedules request) program says = lists_taken app words request program says
 taken app words (cover request) program says = cover_taken app words request program says
@@ -56,21 +58,21 @@ found app words (decode form digits) program says = decode_found app words form 
 found app words (replay plan) program says = replay_found app words plan program says
 found app words (forward config printing files) program says =
     let all = forward_found app words config printing files program says in (all.0, all.1, (all.2, all.3))
-found app words (from_capture port queue) program says = from_found app words port queue program says
+found app words (from_capture port queue reading) program says = from_found app words port queue reading program says
 found app words (to_capture port) program says = to_found app words port program says
 found app words (schedules request) program says = lists_found app words request program says
 found app words (cover request) program says = cover_found app words request program says
 
 -- one case for each command
 each : (P : Saying → Type 0) → ((digits : Text) → P (once digits)) → ((form : Form) (digits : Text) → P (decode form digits)) → ((plan : QueuePlan) → P (replay plan))
-    → ((config : Config) (printing : Printing) (files : FileOptions) → P (forward config printing files)) → ((port queue : ℕ) → P (from_capture port queue))
+    → ((config : Config) (printing : Printing) (files : FileOptions) → P (forward config printing files)) → ((port queue : ℕ) (reading : ReadOptions) → P (from_capture port queue reading))
     → ((port : ℕ) → P (to_capture port)) → ((request : ScheduleRequest) → P (schedules request)) → ((request : CoverRequest) → P (cover request))
     → (saying : Saying) → P saying
 each P of-once of-decode of-replay of-forward of-from of-to of-schedules of-cover (once digits) = of-once digits
 each P of-once of-decode of-replay of-forward of-from of-to of-schedules of-cover (decode form digits) = of-decode form digits
 each P of-once of-decode of-replay of-forward of-from of-to of-schedules of-cover (replay plan) = of-replay plan
 each P of-once of-decode of-replay of-forward of-from of-to of-schedules of-cover (forward config printing files) = of-forward config printing files
-each P of-once of-decode of-replay of-forward of-from of-to of-schedules of-cover (from_capture port queue) = of-from port queue
+each P of-once of-decode of-replay of-forward of-from of-to of-schedules of-cover (from_capture port queue reading) = of-from port queue reading
 each P of-once of-decode of-replay of-forward of-from of-to of-schedules of-cover (to_capture port) = of-to port
 each P of-once of-decode of-replay of-forward of-from of-to of-schedules of-cover (schedules request) = of-schedules request
 each P of-once of-decode of-replay of-forward of-from of-to of-schedules of-cover (cover request) = of-cover request
@@ -82,56 +84,56 @@ once-kept : (frame : Result (List ℕ) Refusal) (old new : Option (List ℕ)) �
 once-kept (Ok bytes) old new keeps = inr refl
 once-kept (Err e) old new keeps = (refl, keeps)
 
-pub kept : (saying : Saying) (input old new : Option (List ℕ)) → Keeps old new → EndsSaid saying input REFUSED old new
-kept (once digits) input old new keeps = once-kept (frame_in digits) old new keeps
-kept (decode form digits) input old new keeps = inr (refl, keeps)
-kept (replay plan) input old new keeps = λ text known. replay-kept plan text old new keeps
-kept (forward config printing files) input old new keeps = forward-kept config (outlet printing files.wires) files.sources input old new keeps
-kept (from_capture port queue) input old new keeps = λ bytes known. capture-kept (lines_meant port queue bytes) old new keeps
-kept (to_capture port) input old new keeps = λ text known. capture-kept (capture_meant port text) old new keeps
-kept (schedules request) input old new keeps = schedules-kept request old new keeps
-kept (cover request) input old new keeps = cover-kept request old new
+pub kept : (saying : Saying) (is_terminal : Bool) (input old new : Option (List ℕ)) → Keeps old new → EndsSaid saying is_terminal input REFUSED old new
+kept (once digits) is_terminal input old new keeps = once-kept (frame_in digits) old new keeps
+kept (decode form digits) is_terminal input old new keeps = inr (refl, keeps)
+kept (replay plan) is_terminal input old new keeps = λ text known. replay-kept plan text old new keeps
+kept (forward config printing files) is_terminal input old new keeps = forward-kept config (outlet printing files.wires) (intake_of files is_terminal) input old new keeps
+kept (from_capture port queue reading) is_terminal input old new keeps = λ bytes known. capture-kept (lines_meant port queue reading bytes) old new keeps
+kept (to_capture port) is_terminal input old new keeps = λ text known. capture-kept (capture_meant port text) old new keeps
+kept (schedules request) is_terminal input old new keeps = schedules-kept request old new keeps
+kept (cover request) is_terminal input old new keeps = cover-kept request old new
 
 -- what is asked for ends as it is said to
-pub request-ends : (saying : Saying) (request : Request) (input : Option (List ℕ)) (status : ℕ) (old new : Option (List ℕ)) → IsAsked saying (asked.Request request)
-    → EndsAs request input status old new → EndsSaid saying input status old new
-request-ends (once digits) request input status old new is ends = once-ends request digits input status old new is ends
-request-ends (decode form digits) request input status old new is ends = decode-ends request form digits input status old new is ends
-request-ends (replay plan) request input status old new is ends = λ text known. replay-ends request plan text input status old new is known ends
-request-ends (forward config printing files) request input status old new is ends = absurd is
-request-ends (from_capture port queue) request input status old new is ends = absurd is
-request-ends (to_capture port) request input status old new is ends = absurd is
-request-ends (schedules request′) request input status old new is ends = absurd is
-request-ends (cover request′) request input status old new is ends = absurd is
+pub request-ends : (saying : Saying) (request : Request) (is_terminal : Bool) (input : Option (List ℕ)) (status : ℕ) (old new : Option (List ℕ)) → IsAsked saying (asked.Request request)
+    → EndsAs request input status old new → EndsSaid saying is_terminal input status old new
+request-ends (once digits) request is_terminal input status old new is ends = once-ends request digits input status old new is ends
+request-ends (decode form digits) request is_terminal input status old new is ends = decode-ends request form digits input status old new is ends
+request-ends (replay plan) request is_terminal input status old new is ends = λ text known. replay-ends request plan text input status old new is known ends
+request-ends (forward config printing files) request is_terminal input status old new is ends = absurd is
+request-ends (from_capture port queue reading) request is_terminal input status old new is ends = absurd is
+request-ends (to_capture port) request is_terminal input status old new is ends = absurd is
+request-ends (schedules request′) request is_terminal input status old new is ends = absurd is
+request-ends (cover request′) request is_terminal input status old new is ends = absurd is
 
-pub forward-said : (words : List Text) (saying : Saying) (given : Config) (shown : Printing) (input : Option (List ℕ)) (status : ℕ) (old new : Option (List ℕ))
+pub forward-said : (words : List Text) (saying : Saying) (given : Config) (shown : Printing) (is_terminal : Bool) (input : Option (List ℕ)) (status : ℕ) (old new : Option (List ℕ))
     → IsAsked saying (asked.Forward given shown) → Says words saying
-    → ((config : Config) (printing : Printing) (files : FileOptions) → SaysForward words config printing files → EndsForwarding given (outlet shown files.wires) files.sources input status old new)
-    → EndsSaid saying input status old new
-forward-said words saying given shown input status old new is says ends =
-    each (λ s. IsAsked s (asked.Forward given shown) → Says words s → EndsSaid s input status old new) (λ d is says. absurd is) (λ f d is says. absurd is)
+    → ((config : Config) (printing : Printing) (files : FileOptions) → SaysForward words config printing files → EndsForwarding given (outlet shown files.wires) (intake_of files is_terminal) input status old new)
+    → EndsSaid saying is_terminal input status old new
+forward-said words saying given shown is_terminal input status old new is says ends =
+    each (λ s. IsAsked s (asked.Forward given shown) → Says words s → EndsSaid s is_terminal input status old new) (λ d is says. absurd is) (λ f d is says. absurd is)
     (λ p is says. absurd is)
-    (λ config printing files is says. forward-ends given config shown printing files.wires files.sources input status old new is (ends config printing files says))
-    (λ p q is says. absurd is) (λ p is says. absurd is) (λ r is says. absurd is) (λ r is says. absurd is) saying is says
+    (λ config printing files is says. forward-ends given config shown printing files.wires (intake_of files is_terminal) input status old new is (ends config printing files says))
+    (λ p q r is says. absurd is) (λ p is says. absurd is) (λ r is says. absurd is) (λ r is says. absurd is) saying is says
 
-pub capture-said : (saying : Saying) (given : CaptureRequest) (input : Option (List ℕ)) (status : ℕ) (old new : Option (List ℕ)) → IsAsked saying (asked.Capture given)
-    → ((bytes : List ℕ) → input ≡ Some bytes → EndsBy (meant given bytes) status old new) → EndsSaid saying input status old new
-capture-said saying given input status old new is ends =
-    each (λ s. IsAsked s (asked.Capture given) → EndsSaid s input status old new) (λ d is. absurd is) (λ f d is. absurd is) (λ p is. absurd is) (λ c p f is. absurd is)
-    (λ port queue is bytes known. capture-ends given (FromCapture port queue) bytes input status old new is known ends)
+pub capture-said : (saying : Saying) (given : CaptureRequest) (is_terminal : Bool) (input : Option (List ℕ)) (status : ℕ) (old new : Option (List ℕ)) → IsAsked saying (asked.Capture given)
+    → ((bytes : List ℕ) → input ≡ Some bytes → EndsBy (meant given bytes) status old new) → EndsSaid saying is_terminal input status old new
+capture-said saying given is_terminal input status old new is ends =
+    each (λ s. IsAsked s (asked.Capture given) → EndsSaid s is_terminal input status old new) (λ d is. absurd is) (λ f d is. absurd is) (λ p is. absurd is) (λ c p f is. absurd is)
+    (λ port queue reading is bytes known. capture-ends given (FromCapture port queue reading) bytes input status old new is known ends)
     (λ port is text known. capture-ends given (ToCapture port) text input status old new is known ends) (λ r is. absurd is) (λ r is. absurd is) saying is
 
-pub schedules-said : (saying : Saying) (given : ScheduleRequest) (input : Option (List ℕ)) (status : ℕ) (old new : Option (List ℕ)) → IsAsked saying (asked.Schedules given)
-    → EndsSchedules given status old new → EndsSaid saying input status old new
-schedules-said saying given input status old new is ends =
-    each (λ s. IsAsked s (asked.Schedules given) → EndsSaid s input status old new) (λ d is. absurd is) (λ f d is. absurd is) (λ p is. absurd is) (λ c p f is. absurd is)
-    (λ p q is. absurd is) (λ p is. absurd is) (λ request is. schedules-ends given request status old new is ends) (λ r is. absurd is) saying is
+pub schedules-said : (saying : Saying) (given : ScheduleRequest) (is_terminal : Bool) (input : Option (List ℕ)) (status : ℕ) (old new : Option (List ℕ)) → IsAsked saying (asked.Schedules given)
+    → EndsSchedules given status old new → EndsSaid saying is_terminal input status old new
+schedules-said saying given is_terminal input status old new is ends =
+    each (λ s. IsAsked s (asked.Schedules given) → EndsSaid s is_terminal input status old new) (λ d is. absurd is) (λ f d is. absurd is) (λ p is. absurd is) (λ c p f is. absurd is)
+    (λ p q r is. absurd is) (λ p is. absurd is) (λ request is. schedules-ends given request status old new is ends) (λ r is. absurd is) saying is
 
-pub cover-said : (saying : Saying) (given : CoverRequest) (input : Option (List ℕ)) (status : ℕ) (old new : Option (List ℕ)) → IsAsked saying (asked.Cover given)
-    → EndsCover given status old new → EndsSaid saying input status old new
-cover-said saying given input status old new is ends =
-    each (λ s. IsAsked s (asked.Cover given) → EndsSaid s input status old new) (λ d is. absurd is) (λ f d is. absurd is) (λ p is. absurd is) (λ c p f is. absurd is)
-    (λ p q is. absurd is) (λ p is. absurd is) (λ r is. absurd is)
+pub cover-said : (saying : Saying) (given : CoverRequest) (is_terminal : Bool) (input : Option (List ℕ)) (status : ℕ) (old new : Option (List ℕ)) → IsAsked saying (asked.Cover given)
+    → EndsCover given status old new → EndsSaid saying is_terminal input status old new
+cover-said saying given is_terminal input status old new is ends =
+    each (λ s. IsAsked s (asked.Cover given) → EndsSaid s is_terminal input status old new) (λ d is. absurd is) (λ f d is. absurd is) (λ p is. absurd is) (λ c p f is. absurd is)
+    (λ p q r is. absurd is) (λ p is. absurd is) (λ r is. absurd is)
     (λ request is. subst (λ (r : CoverRequest). EndsCover r status old new) is ends) saying is
 
 -- ---- what is not shown
@@ -144,23 +146,26 @@ pub record IsUnseen (words : List Text) (given : Config) (shown : Printing) : Ty
   pub says : SaysForward words config printing files
   pub no_progress : shown.progress ≡ false
   pub no_stream : streamed_port files.wires ≡ None
+  pub no_skip : files.reading.skip ≡ false
   pub no_turns : given.turns ≡ 0
 
-record ShowsNothing (progress : Bool) (stream : Option ℕ) (turns : ℕ) : Type 0 where
+record ShowsNothing (progress : Bool) (stream : Option ℕ) (skip : Bool) (turns : ℕ) : Type 0 where
   no_progress : progress ≡ false
   no_stream : stream ≡ None
+  no_skip : skip ≡ false
   no_turns : turns ≡ 0
 
-shows-nothing : (progress : Bool) (stream : Option ℕ) (turns : ℕ) → forward_shows progress stream turns ≡ false → ShowsNothing progress stream turns
-shows-nothing true stream turns e = let bad : ⊥ = cc e in absurd bad
-shows-nothing false (Some port) turns e = let bad : ⊥ = cc e in absurd bad
-shows-nothing false None (suc n) e = let bad : ⊥ = cc e in absurd bad
-shows-nothing false None zero e = record { no_progress = refl; no_stream = refl; no_turns = refl }
+shows-nothing : (progress : Bool) (stream : Option ℕ) (skip : Bool) (turns : ℕ) → forward_shows progress stream skip turns ≡ false → ShowsNothing progress stream skip turns
+shows-nothing true stream skip turns e = let bad : ⊥ = cc e in absurd bad
+shows-nothing false (Some port) skip turns e = let bad : ⊥ = cc e in absurd bad
+shows-nothing false None true turns e = let bad : ⊥ = cc e in absurd bad
+shows-nothing false None false (suc n) e = let bad : ⊥ = cc e in absurd bad
+shows-nothing false None false zero e = record { no_progress = refl; no_stream = refl; no_skip = refl; no_turns = refl }
 
 unseen : (words : List Text) (config given : Config) (printing shown : Printing) (files : FileOptions) → SaysForward words config printing files → given ≡ config → shown ≡ printing
-    → forward_shows printing.progress (streamed_port files.wires) config.turns ≡ false → IsUnseen words given shown
+    → forward_shows printing.progress (streamed_port files.wires) files.reading.skip config.turns ≡ false → IsUnseen words given shown
 unseen words config given printing shown files says one same dark =
-    let no = shows-nothing printing.progress (streamed_port files.wires) config.turns dark in
+    let no = shows-nothing printing.progress (streamed_port files.wires) files.reading.skip config.turns dark in
     record {
       config = config;
       printing = printing;
@@ -168,6 +173,7 @@ unseen words config given printing shown files says one same dark =
       says = says;
       no_progress = ap (λ (p : Printing). p.progress) same ∙ no.no_progress;
       no_stream = no.no_stream;
+      no_skip = no.no_skip;
       no_turns = ap (λ (c : Config). c.turns) one ∙ no.no_turns;
     }
 
@@ -178,7 +184,7 @@ pub unshown-forward : (words : List Text) (a : Asked) (given : Config) (shown : 
 unshown-forward words a given shown is said misuse (is_misuse wrong) = absurd (misuse wrong)
 unshown-forward words a given shown is said misuse (asks saying says dark) =
     each (λ s. Says words s → IsAsked s (asked.Forward given shown) → is_shown s ≡ false → IsUnseen words given shown) (λ d says is dark. absurd is) (λ f d says is dark. absurd is)
-    (λ p says is dark. absurd is) (λ config printing files says is dark. unseen words config given printing shown files says is.0 is.1 dark) (λ p q says is dark. absurd is)
+    (λ p says is dark. absurd is) (λ config printing files says is dark. unseen words config given printing shown files says is.0 is.1 dark) (λ p q r says is dark. absurd is)
     (λ p says is dark. absurd is) (λ r says is dark. absurd is) (λ r says is dark. absurd is) saying says (subst (IsAsked saying) is (said saying says)) dark
 
 pub unshown-cover : (words : List Text) (a : Asked) (given : CoverRequest) → a ≡ asked.Cover given
@@ -186,4 +192,16 @@ pub unshown-cover : (words : List Text) (a : Asked) (given : CoverRequest) → a
 unshown-cover words a given is said misuse (is_misuse wrong) = misuse wrong
 unshown-cover words a given is said misuse (asks saying says dark) =
     each (λ s. IsAsked s (asked.Cover given) → is_shown s ≡ false → ⊥) (λ d is dark. is) (λ f d is dark. is) (λ p is dark. is) (λ c p f is dark. is)
-    (λ p q is dark. is) (λ p is dark. is) (λ r is dark. is) (λ r is dark. cc dark) saying (subst (IsAsked saying) is (said saying says)) dark
+    (λ p q r is dark. is) (λ p is dark. is) (λ r is dark. is) (λ r is dark. cc dark) saying (subst (IsAsked saying) is (said saying says)) dark
+
+-- a conversion of a capture that is not shown leaves no records out
+unskipped : (given request : CaptureRequest) → given ≡ request → may_skip request ≡ false → may_skip given ≡ false
+unskipped given request is dark = ap may_skip is ∙ dark
+
+pub unshown-capture : (words : List Text) (a : Asked) (given : CaptureRequest) → a ≡ asked.Capture given
+    → ((saying : Saying) → Says words saying → IsAsked saying a) → (IsMisuse words → ⊥) → IsUnshown words → may_skip given ≡ false
+unshown-capture words a given is said misuse (is_misuse wrong) = absurd (misuse wrong)
+unshown-capture words a given is said misuse (asks saying says dark) =
+    each (λ s. IsAsked s (asked.Capture given) → is_shown s ≡ false → may_skip given ≡ false) (λ d is dark. absurd is) (λ f d is dark. absurd is) (λ p is dark. absurd is)
+    (λ c p f is dark. absurd is) (λ p q r is dark. unskipped given (FromCapture p q r) is dark) (λ p is dark. unskipped given (ToCapture p) is refl)
+    (λ r is dark. absurd is) (λ r is dark. absurd is) saying (subst (IsAsked saying) is (said saying says)) dark

@@ -36,6 +36,7 @@ options words request says =
     ∷ flag (codes "json") (expects_json request.expect)
     ∷ flag (codes "registers") (expects_registers request.expect)
     ∷ flag (codes "device-only-real") request.plan.device_only
+    ∷ flag (codes "explain") says.explained
     ∷ []
 
 pub is_command : (rings formats : Choices) → IsCommand rings formats (codes "schedules") shape
@@ -68,14 +69,14 @@ saying words request says = record {
 are_lawful : (words : List Text) (request : ScheduleRequest) (says : SaysSchedules words request) → AreLawful (options words request says)
 are_lawful words request says =
     let are = saying words request says in
-    (tt, (tt, (are.seed, (are.moves, (are.count.lawful, (are.ring.lawful, (are.pairs.lawful, (tt, (tt, (are.refused.lawful, (tt, (tt, (tt, (tt, tt))))))))))))))
+    (tt, (tt, (are.seed, (are.moves, (are.count.lawful, (are.ring.lawful, (are.pairs.lawful, (tt, (tt, (are.refused.lawful, (tt, (tt, (tt, (tt, (tt, tt)))))))))))))))
 
 words_are : (words : List Text) (request : ScheduleRequest) (says : SaysSchedules words request) → words ≡ codes "schedules" ∷ all_words (options words request says)
 words_are words request says =
     let are = saying words request says in
     let begins : List Text = words_of (flag (codes "off") (not request.plan.enabled)) in
     let head : List Text = words_of (flag (codes "head") (is_head request.plan.completion)) in
-    let last : List Text = last_words request.expect request.plan.device_only in
+    let last : List Text = last_words request.expect request.plan.device_only says.explained in
     let behind = ap (λ (r : List Text). begins ++ (head ++ (r ++ last))) are.refused.words_are in
     says.words_are
     ∙ ap (λ (l : List Text). codes "schedules" ∷ codes "--seed" ∷ decimal request.seed ∷ codes "--moves" ∷ decimal request.plan.moves ∷ l)

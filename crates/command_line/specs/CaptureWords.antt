@@ -1,8 +1,10 @@
 -- The words of `from-capture` and `to-capture`.
-use Rattle.std.specs.Prelude.{◌≡◌, ℕ, ◌<◌, true, pos, List, [], ◌∷◌, codes, decimal, Some}
+use Rattle.std.specs.Prelude.{◌≡◌, ℕ, ◌<◌, true, pos, List, [], ◌∷◌, ◌++◌, codes, decimal, Some, None}
 use Rattle.clap.specs.Words.{App, Row, Rule, Text, new_rule, one_of}
 use Rattle.clap.specs.declared.builder.value_parser.ValueParser.TheVariants.{Signed}
-use Rattle.command_line.specs.OptionWords.{with_rules}
+use Rattle.capture.specs.declared.options.ReadOptions.{ReadOptions}
+use Rattle.command_line.specs.OptionWords.{explain_rule, flag_words, with_rules}
+use Rattle.command_line.specs.ReadingWords.{HasReading, limit_rule, skip_rule}
 use Rattle.limits.specs.declared.profile.TheConstants.{MOST_PAIRS, PORTS}
 
 -- an argument that is a number up to a given one
@@ -17,15 +19,16 @@ queue_rule = place_rule (codes "queue") 7
 
 -- the command `from-capture`
 abbrev pub from_capture_app : App
-from_capture_app = with_rules (codes "from-capture") (port_rule ∷ queue_rule ∷ [])
+from_capture_app = with_rules (codes "from-capture") (port_rule ∷ queue_rule ∷ skip_rule ∷ limit_rule ∷ explain_rule ∷ [])
 
 -- the command `to-capture`
 abbrev pub to_capture_app : App
-to_capture_app = with_rules (codes "to-capture") (port_rule ∷ [])
+to_capture_app = with_rules (codes "to-capture") (port_rule ∷ explain_rule ∷ [])
 
--- the words are `from-capture`, a port and a queue
-pub record SaysFromCapture (words : List Text) (port queue : ℕ) : Type 0 where
-  pub words_are : words ≡ codes "from-capture" ∷ decimal port ∷ decimal queue ∷ []
+-- the words are `from-capture`, `--skip` if faulty records are left out, a port and a queue
+pub record SaysFromCapture (words : List Text) (port queue : ℕ) (reading : ReadOptions) : Type 0 where
+  pub words_are : words ≡ codes "from-capture" ∷ (flag_words (codes "--skip") reading.skip ++ decimal port ∷ decimal queue ∷ [])
+  pub unlimited : reading.limit ≡ None
   pub port_is : port < PORTS
   pub queue_is : queue < MOST_PAIRS
 
@@ -40,9 +43,10 @@ pub record HasPlace (rows : List Row) (id : Text) (n : ℕ) : Type 0 where
   pub low : n < MOST_PAIRS
 
 -- the values of the arguments
-pub record HasFromCapture (rows : List Row) (port queue : ℕ) : Type 0 where
+pub record HasFromCapture (rows : List Row) (port queue : ℕ) (reading : ReadOptions) : Type 0 where
   pub has_port : HasPlace rows (codes "port") port
   pub has_queue : HasPlace rows (codes "queue") queue
+  pub has_reading : HasReading rows reading
   pub port_is : port < PORTS
 
 pub record HasToCapture (rows : List Row) (port : ℕ) : Type 0 where

@@ -1,5 +1,5 @@
 -- The program's command line as clap reads it.
-use Rattle.std.specs.Prelude.{◌≡◌, ◌≢◌, true, false, not, ◌&&◌, List, [], ◌∷◌, ◌++◌, codes, fold, map, slice_index, Some, All}
+use Rattle.std.specs.Prelude.{◌≡◌, ◌≢◌, Bool, true, false, not, ◌&&◌, List, [], ◌∷◌, ◌++◌, codes, fold, map, slice_index, Some, All}
 use Rattle.std.specs.Borrow.{Bor}
 use Rattle.clap.specs.Words.{App, Kinds, Row, Rule, Text, fault_of, first_of, new_app, new_rule, with_subcommand}
 use Rattle.clap.specs.declared.builder.value_parser.ValueParser.TheVariants.{Names}
@@ -14,11 +14,12 @@ use Rattle.forwarder.specs.declared.config.Config.{Config}
 use Rattle.forward_command.specs.declared.printing.Printing.{Printing}
 use Rattle.forward_command.specs.Requests.{IsPlaced}
 use Rattle.forward_command.specs.declared.piped.request.CaptureRequest.{CaptureRequest}
-use Rattle.command_line.specs.OptionWords.{HasFlag, HasNumber, SaysNumber, draws_any, flag_rule, flag_words, is_head, number_rule, optional_rule, picture_value, picture_words, queue_rules, with_rules}
+use Rattle.command_line.specs.OptionWords.{HasFlag, HasNumber, SaysNumber, draws_any, explain_rule, explain_words, flag_rule, flag_words, is_head, number_rule, optional_rule, picture_value, picture_words, queue_rules, with_rules}
 use Rattle.command_line.specs.ScheduleWords.{schedules_app}
 use Rattle.schedule_command.specs.declared.request.ScheduleRequest.{ScheduleRequest}
 use Rattle.cover_command.specs.declared.request.CoverRequest.{CoverRequest}
 use Rattle.command_line.specs.FileWords.{AreFiles, FileOptions, file_rule, words_of_files}
+use Rattle.command_line.specs.ReadingWords.{limit_rule, skip_rule}
 use Rattle.command_line.specs.CaptureWords.{from_capture_app, to_capture_app}
 use Rattle.command_line.specs.declared.command.Asked.{Asked}
 use Rattle.command_line.specs.declared.command.Asked.TheVariants as asked
@@ -29,7 +30,7 @@ hex_rule = record (new_rule (codes "hex")) { value_names = 1; required = true }
 
 -- the command `once`
 abbrev pub once_app : App
-once_app = with_rules (codes "once") (hex_rule ∷ [])
+once_app = with_rules (codes "once") (hex_rule ∷ explain_rule ∷ [])
 
 -- the program without its commands: its words begin with a required command
 abbrev pub bare_app : App
@@ -45,12 +46,12 @@ choice_rule id choices = record (new_rule id) { value_names = 1; required = true
 
 -- the command `decode`
 abbrev pub decode_app : Choices → Choices → App
-decode_app rings formats = with_rules (codes "decode") (choice_rule (codes "ring") rings ∷ choice_rule (codes "format") formats ∷ hex_rule ∷ [])
+decode_app rings formats = with_rules (codes "decode") (choice_rule (codes "ring") rings ∷ choice_rule (codes "format") formats ∷ hex_rule ∷ explain_rule ∷ [])
 
 -- the command `replay`
 abbrev pub replay_app : App
 replay_app =
-    with_rules (codes "replay") (queue_rules ++ flag_rule (codes "lists") ∷ flag_rule (codes "json") ∷ flag_rule (codes "registers") ∷ optional_rule (codes "picture") (codes "each") ∷ [])
+    with_rules (codes "replay") (queue_rules ++ flag_rule (codes "lists") ∷ flag_rule (codes "json") ∷ flag_rule (codes "registers") ∷ optional_rule (codes "picture") (codes "each") ∷ explain_rule ∷ [])
 
 -- the command `forward`: its queues and buffers, its workers, its behaviour on full rings, its reports, its output, and
 -- its files
@@ -70,7 +71,10 @@ forward_app = with_rules (codes "forward") (number_rule (codes "pairs") (codes "
     ∷ flag_rule (codes "json")
     ∷ flag_rule (codes "progress")
     ∷ file_rule (codes "capture")
+    ∷ skip_rule
+    ∷ limit_rule
     ∷ file_rule (codes "wire-capture")
+    ∷ explain_rule
     ∷ [])
 
 -- the program with its commands
@@ -104,10 +108,11 @@ pub record SaysDecode (words : List Text) (form : Form) (digits : Text) : Type 0
 
 -- The words are `replay` and its options in this order: `--off` if the queues begin disabled, `--head` if they report by a
 -- head word, `--lists` if each list has new queues, `--json` if objects are printed, `--registers` if registers are shown,
--- and `--picture` or `--picture=last` if queues are drawn, which excludes `--json`.
+-- and `--picture` or `--picture=last` if queues are drawn, which excludes `--json`; and `--explain` if a refusal is explained.
 pub record SaysReplay (words : List Text) (plan : QueuePlan) : Type 0 where
   pub ring : List Text
   pub pairs : List Text
+  pub explained : Bool
   pub says_ring : SaysNumber (codes "--ring") 8 ring plan.ring
   pub says_pairs : SaysNumber (codes "--pairs") 1 pairs plan.pairs
   pub words_are : words ≡ codes "replay" ∷ (ring ++ (pairs
@@ -115,13 +120,13 @@ pub record SaysReplay (words : List Text) (plan : QueuePlan) : Type 0 where
       ++ (flag_words (codes "--head") (is_head plan.completion)
       ++ (flag_words (codes "--lists") plan.lists
       ++ (flag_words (codes "--json") plan.shown.json
-      ++ (flag_words (codes "--registers") plan.shown.registers ++ picture_words plan.shown.pictures)))))))
+      ++ (flag_words (codes "--registers") plan.shown.registers ++ (picture_words plan.shown.pictures ++ explain_words explained))))))))
   pub all_lines : (plan.shown.json && draws_any plan.shown.pictures) ≡ false
 
 -- the words are `forward` and its options in this order: `--drop` if frames are dropped, `--no-retry` if packets are,
 -- `--head` if the transmit queues report by a head word, `--quiet` if no wire is printed, `--json` if the counts are
--- objects, and `--progress` if progress is shown; then `--capture` for each source, and `--wire-capture` for each wire
--- file
+-- objects, `--progress` if progress is shown, and `--explain` if a refusal is explained; then `--capture` for each source, `--skip` if
+-- faulty records of captures are left out, `--limit` if their frames are limited, and `--wire-capture` for each wire file
 pub record SaysForward (words : List Text) (config : Config) (printing : Printing) (files : FileOptions) : Type 0 where
   pub pairs : List Text
   pub ring : List Text
@@ -131,6 +136,7 @@ pub record SaysForward (words : List Text) (config : Config) (printing : Printin
   pub rs_every : List Text
   pub workers : List Text
   pub turns : List Text
+  pub explained : Bool
   pub says_pairs : SaysNumber (codes "--pairs") 1 pairs config.pairs
   pub says_ring : SaysNumber (codes "--ring") 512 ring config.ring
   pub says_buffers : SaysNumber (codes "--buffers") 4096 buffers config.buffers
@@ -144,7 +150,8 @@ pub record SaysForward (words : List Text) (config : Config) (printing : Printin
       ++ (flag_words (codes "--head") (is_head config.completion)
       ++ (flag_words (codes "--quiet") printing.quiet
       ++ (flag_words (codes "--json") printing.json
-      ++ (flag_words (codes "--progress") printing.progress ++ words_of_files files))))))))))))))
+      ++ (flag_words (codes "--progress") printing.progress
+      ++ (explain_words explained ++ words_of_files files)))))))))))))))
   pub are_files : AreFiles files
 
 -- the values of the arguments

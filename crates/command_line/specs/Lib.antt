@@ -1,6 +1,7 @@
 pub mod CaptureWords
 pub mod OptionWords
 pub mod ScheduleWords
+pub mod ReadingWords
 pub mod FileWords
 pub mod Forwarding
 pub mod CommandLine

@@ -29,6 +29,10 @@ number_rule id default = bounded_rule id 4294967295 (default ∷ [])
 abbrev pub flag_rule : Text → Rule
 flag_rule id = record (new_rule id) { long = Some id; action = Some SetTrue }
 
+-- the flag of every command that asks for an explanation of a refusal
+abbrev pub explain_rule : Rule
+explain_rule = flag_rule (codes "explain")
+
 -- an option whose value may be omitted, and the value that it then has
 abbrev pub optional_rule : Text → Text → Rule
 optional_rule id value = record (new_rule id) {
@@ -60,6 +64,9 @@ SaysNumber = SaysNumberBelow (2 ^ 32)
 -- a flag is given or not
 abbrev pub flag_words : Text → Bool → List Text
 flag_words option stands = if stands then option ∷ [] else []
+
+abbrev pub explain_words : Bool → List Text
+explain_words explained = flag_words (codes "--explain") explained
 
 abbrev pub is_head : Completion → Bool
 is_head Head = true

@@ -9,6 +9,7 @@ use Rattle.commands.specs.Frame.{frame_in}
 use Rattle.commands.specs.Replay.{EndsReplay}
 use Rattle.commands.specs.declared.decode.Form.{Form}
 use Rattle.commands.specs.declared.replay.QueuePlan.{QueuePlan}
+use Rattle.capture.specs.declared.options.ReadOptions.{ReadOptions}
 use Rattle.cover_command.specs.Covers.{EndsCover}
 use Rattle.cover_command.specs.declared.request.CoverRequest.{CoverRequest}
 use Rattle.forward_command.specs.declared.printing.Printing.{Printing}
@@ -19,7 +20,7 @@ use Rattle.schedule_command.specs.declared.request.ScheduleRequest.{ScheduleRequ
 use Rattle.command_line.specs.CaptureWords.{HasFromCapture, HasToCapture, SaysFromCapture, SaysToCapture}
 use Rattle.command_line.specs.CommandLine.{HasDecode, HasForward, HasOnce, HasPrinting, HasReplay, IsCapture, IsCover, IsDecode, IsForward, IsMisuse, IsOnce, IsReplayOf, IsRequest, IsSchedules}
 use Rattle.command_line.specs.CommandLine.{SaysDecode, SaysForward, SaysOnce, SaysReplay}
-use Rattle.command_line.specs.FileWords.{FileOptions}
+use Rattle.command_line.specs.FileWords.{FileOptions, intake_of}
 use Rattle.command_line.specs.Forwarding.{EndsForwarding}
 use Rattle.command_line.specs.ScheduleWords.{HasCover, HasLists, SaysCover, SaysLists}
 use Rattle.command_line.specs.declared.command.Asked.{Asked}
@@ -29,7 +30,7 @@ pub data Saying : Type 0 where
   decode : Form → Text → Saying
   replay : QueuePlan → Saying
   forward : Config → Printing → FileOptions → Saying
-  from_capture : ℕ → ℕ → Saying  -- a port and a queue
+  from_capture : ℕ → ℕ → ReadOptions → Saying  -- a port, a queue, and how the capture is read
   to_capture : ℕ → Saying  -- a port
   schedules : ScheduleRequest → Saying
   cover : CoverRequest → Saying
@@ -40,7 +41,7 @@ Says words (once digits) = SaysOnce words digits
 Says words (decode form digits) = SaysDecode words form digits
 Says words (replay plan) = SaysReplay words plan
 Says words (forward config printing files) = SaysForward words config printing files
-Says words (from_capture port queue) = SaysFromCapture words port queue
+Says words (from_capture port queue reading) = SaysFromCapture words port queue reading
 Says words (to_capture port) = SaysToCapture words port
 Says words (schedules request) = SaysLists words request
 Says words (cover request) = SaysCover words request
@@ -51,7 +52,7 @@ name_of (once digits) = codes "once"
 name_of (decode form digits) = codes "decode"
 name_of (replay plan) = codes "replay"
 name_of (forward config printing files) = codes "forward"
-name_of (from_capture port queue) = codes "from-capture"
+name_of (from_capture port queue reading) = codes "from-capture"
 name_of (to_capture port) = codes "to-capture"
 name_of (schedules request) = codes "schedules"
 name_of (cover request) = codes "schedules"
@@ -62,7 +63,7 @@ Holds rows (once digits) = HasOnce rows digits
 Holds rows (decode form digits) = HasDecode rows form digits
 Holds rows (replay plan) = HasReplay rows plan
 Holds rows (forward config printing files) = HasForward rows config × HasPrinting rows printing
-Holds rows (from_capture port queue) = HasFromCapture rows port queue
+Holds rows (from_capture port queue reading) = HasFromCapture rows port queue reading
 Holds rows (to_capture port) = HasToCapture rows port
 Holds rows (schedules request) = HasLists rows request
 Holds rows (cover request) = HasCover rows request
@@ -73,37 +74,40 @@ IsAsked (once digits) a = IsRequest (λ r. IsOnce r digits) a
 IsAsked (decode form digits) a = IsRequest (λ r. IsDecode r form digits) a
 IsAsked (replay plan) a = IsRequest (λ r. IsReplayOf r plan) a
 IsAsked (forward config printing files) a = IsForward a config printing
-IsAsked (from_capture port queue) a = IsCapture a (FromCapture port queue)
+IsAsked (from_capture port queue reading) a = IsCapture a (FromCapture port queue reading)
 IsAsked (to_capture port) a = IsCapture a (ToCapture port)
 IsAsked (schedules request) a = IsSchedules a request
 IsAsked (cover request) a = IsCover a request
 
--- how a run of it ends, with this input, which may be unknown, and with the old and the new output
-abbrev pub EndsSaid : Saying → Option (List ℕ) → ℕ → Option (List ℕ) → Option (List ℕ) → Type 0
-EndsSaid (once digits) input status old new = Ends (frame_in digits) status old new
-EndsSaid (decode form digits) input status old new = EndsDecode form digits status old new
-EndsSaid (replay plan) input status old new = (text : List ℕ) → input ≡ Some text → EndsReplay plan text status old new
-EndsSaid (forward config printing files) input status old new = EndsForwarding config (outlet printing files.wires) files.sources input status old new
-EndsSaid (from_capture port queue) input status old new = (bytes : List ℕ) → input ≡ Some bytes → EndsBy (lines_meant port queue bytes) status old new
-EndsSaid (to_capture port) input status old new = (text : List ℕ) → input ≡ Some text → EndsBy (capture_meant port text) status old new
-EndsSaid (schedules request) input status old new = EndsSchedules request status old new
-EndsSaid (cover request) input status old new = EndsCover request status old new
+-- how a run of it ends, with an input that may be a terminal and whose bytes may be unknown, and with the old and the new
+-- output
+abbrev pub EndsSaid : Saying → Bool → Option (List ℕ) → ℕ → Option (List ℕ) → Option (List ℕ) → Type 0
+EndsSaid (once digits) is_terminal input status old new = Ends (frame_in digits) status old new
+EndsSaid (decode form digits) is_terminal input status old new = EndsDecode form digits status old new
+EndsSaid (replay plan) is_terminal input status old new = (text : List ℕ) → input ≡ Some text → EndsReplay plan text status old new
+EndsSaid (forward config printing files) is_terminal input status old new = EndsForwarding config (outlet printing files.wires) (intake_of files is_terminal) input status old new
+EndsSaid (from_capture port queue reading) is_terminal input status old new = (bytes : List ℕ) → input ≡ Some bytes → EndsBy (lines_meant port queue reading bytes) status old new
+EndsSaid (to_capture port) is_terminal input status old new = (text : List ℕ) → input ≡ Some text → EndsBy (capture_meant port text) status old new
+EndsSaid (schedules request) is_terminal input status old new = EndsSchedules request status old new
+EndsSaid (cover request) is_terminal input status old new = EndsCover request status old new
 
 -- besides refusals, a forwarding writes its progress to standard error, its counts if a capture goes to standard output,
--- and the flows that `--turns` cut
-abbrev pub forward_shows : Bool → Option ℕ → ℕ → Bool
-forward_shows true stream turns = true
-forward_shows false (Some port) turns = true
-forward_shows false None zero = false
-forward_shows false None (suc n) = true
+-- the records that were left out of captures, and the flows that `--turns` cut
+abbrev pub forward_shows : Bool → Option ℕ → Bool → ℕ → Bool
+forward_shows true stream skip turns = true
+forward_shows false (Some port) skip turns = true
+forward_shows false None true turns = true
+forward_shows false None false zero = false
+forward_shows false None false (suc n) = true
 
--- `forward --progress`, `forward --wire-capture P=-`, `forward --turns` and `schedules --cover` write to it
+-- `forward --progress`, `forward --wire-capture P=-`, `forward --skip`, `forward --turns`, `from-capture --skip` and
+-- `schedules --cover` write to it
 abbrev pub is_shown : Saying → Bool
 is_shown (once digits) = false
 is_shown (decode form digits) = false
 is_shown (replay plan) = false
-is_shown (forward config printing files) = forward_shows printing.progress (streamed_port files.wires) config.turns
-is_shown (from_capture port queue) = false
+is_shown (forward config printing files) = forward_shows printing.progress (streamed_port files.wires) files.reading.skip config.turns
+is_shown (from_capture port queue reading) = reading.skip
 is_shown (to_capture port) = false
 is_shown (schedules request) = false
 is_shown (cover request) = true

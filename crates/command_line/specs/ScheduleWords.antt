@@ -9,7 +9,7 @@ use Rattle.commands.specs.declared.replay.Shown.{Shown}
 use Rattle.cover_command.specs.declared.request.CoverRequest.{CoverRequest}
 use Rattle.schedules.specs.declared.plan.SchedulePlan.{SchedulePlan}
 use Rattle.schedule_command.specs.declared.request.ScheduleRequest.{ScheduleRequest}
-use Rattle.command_line.specs.OptionWords.{HasFlag, HasNumber, SaysNumber, SaysNumberBelow, bounded_rule, flag_rule, flag_words, is_head, number_rule, queue_rules, with_rules}
+use Rattle.command_line.specs.OptionWords.{HasFlag, HasNumber, SaysNumber, SaysNumberBelow, bounded_rule, explain_rule, explain_words, flag_rule, flag_words, is_head, number_rule, queue_rules, with_rules}
 
 -- A required number, and a percentage.
 abbrev pub said_rule : Text → Rule
@@ -31,6 +31,7 @@ schedules_app = with_rules (codes "schedules") (said_rule (codes "seed")
     ∷ flag_rule (codes "device-only-real")
     ∷ flag_rule (codes "cover")
     ∷ flag_rule (codes "recommended")
+    ∷ explain_rule
     ∷ [])
 
 -- Whether the expected output is printed as objects, and whether with registers.
@@ -48,12 +49,14 @@ IsUndrawn None = Unit {0}
 IsUndrawn (Some form) = form.pictures ≡ Never
 
 -- The last words: `--expect` if the output of `replay` follows each list, `--json` if it is printed as objects,
--- `--registers` if registers are shown, and `--device-only-real` if only moves of silicon are made.
-abbrev pub last_words : Option Shown → Bool → List Text
-last_words expect device_only =
+-- `--registers` if registers are shown, `--device-only-real` if only moves of silicon are made, and `--explain` if a
+-- refusal is explained.
+abbrev pub last_words : Option Shown → Bool → Bool → List Text
+last_words expect device_only explained =
     flag_words (codes "--expect") (is_some expect)
     ++ (flag_words (codes "--json") (expects_json expect)
-    ++ (flag_words (codes "--registers") (expects_registers expect) ++ flag_words (codes "--device-only-real") device_only))
+    ++ (flag_words (codes "--registers") (expects_registers expect)
+    ++ (flag_words (codes "--device-only-real") device_only ++ explain_words explained)))
 
 -- The words are `schedules` and its options in this order: the seed and the number of moves; `--off` if the queues
 -- begin disabled; `--head` if they report by a head word; and the last words.
@@ -62,6 +65,7 @@ pub record SaysSchedules (words : List Text) (request : ScheduleRequest) : Type 
   pub ring : List Text
   pub pairs : List Text
   pub refused : List Text
+  pub explained : Bool
   pub seed_fits : request.seed < 2 ^ 32
   pub moves_fits : request.plan.moves < 2 ^ 32
   pub says_count : SaysNumber (codes "--count") 1 count request.count
@@ -72,7 +76,7 @@ pub record SaysSchedules (words : List Text) (request : ScheduleRequest) : Type 
       ∷ (count ++ (ring ++ (pairs
       ++ (flag_words (codes "--off") (not request.plan.enabled)
       ++ (flag_words (codes "--head") (is_head request.plan.completion)
-      ++ (refused ++ last_words request.expect request.plan.device_only))))))
+      ++ (refused ++ last_words request.expect request.plan.device_only explained))))))
   pub undrawn : IsUndrawn request.expect
 
 -- The recommended lists, for any queues.
@@ -87,12 +91,13 @@ pub record SaysRecommended (words : List Text) (request : ScheduleRequest) : Typ
   pub recommended : IsRecommended request
   pub ring : List Text
   pub pairs : List Text
+  pub explained : Bool
   pub says_ring : SaysNumber (codes "--ring") 8 ring request.plan.ring
   pub says_pairs : SaysNumber (codes "--pairs") 1 pairs request.plan.pairs
   pub words_are : words ≡ codes "schedules" ∷ codes "--recommended"
       ∷ (ring ++ (pairs
       ++ (flag_words (codes "--off") (not request.plan.enabled)
-      ++ (flag_words (codes "--head") (is_head request.plan.completion) ++ last_words request.expect request.plan.device_only))))
+      ++ (flag_words (codes "--head") (is_head request.plan.completion) ++ last_words request.expect request.plan.device_only explained))))
   pub undrawn : IsUndrawn request.expect
 
 -- The words request drawn lists, in either form.
@@ -102,8 +107,9 @@ SaysLists words request = SaysSchedules words request ⊎ SaysRecommended words 
 -- The words are `schedules --cover` and its options in this order: `--head` if the transmit queue reports by a head
 -- word, and the last words.
 pub record SaysCover (words : List Text) (request : CoverRequest) : Type 0 where
+  pub explained : Bool
   pub words_are : words ≡ codes "schedules" ∷ codes "--cover"
-      ∷ (flag_words (codes "--head") (is_head request.completion) ++ last_words request.expect request.device_only)
+      ∷ (flag_words (codes "--head") (is_head request.completion) ++ last_words request.expect request.device_only explained)
   pub undrawn : IsUndrawn request.expect
 
 -- The value comes from the words, and not from the default.

@@ -1,23 +1,29 @@
 //! Reads the requests of `from-capture` and `to-capture` from matches.
 ghost use Rattle.std.specs.Prelude.{◌≡◌, ℕ, Some, IfSome};
 ghost use Rattle.clap.specs.Words.{found_of, rows_of};
+ghost use Rattle.capture.specs.declared.options.ReadOptions.{ReadOptions};
 ghost use Rattle.forward_command.specs.Requests.{IsPlaced};
 ghost use Rattle.forward_command.specs.declared.piped.request.CaptureRequest.TheVariants.{FromCapture, ToCapture};
 ghost use Rattle.command_line.specs.CaptureWords.{HasFromCapture, HasToCapture};
 
-use crate::reading::place_in;
+use crate::reading::{place_in, reading_in};
 use clap::ArgMatches;
 use forward_command::piped::CaptureRequest;
 
 /// Reads the request from matches of `from-capture`.
 pub(crate) fn from_capture_in<'a>(matches: &ArgMatches<'a>) -> Option<CaptureRequest>
-    ensures value { (port queue : ℕ) → HasFromCapture (rows_of (found_of matches.now)) port queue
-        → result ≡ Some (FromCapture port queue) }
+    ensures value { (port queue : ℕ) (reading : ReadOptions) → HasFromCapture (rows_of (found_of matches.now)) port queue reading
+        → result ≡ Some (FromCapture port queue reading) }
     ensures placed { IfSome result IsPlaced }
 {
     let port = place_in(matches, "port")?;
     let queue = place_in(matches, "queue")?;
-    placed(CaptureRequest::FromCapture { port, queue })
+    let reading = reading_in(matches);
+    placed(CaptureRequest::FromCapture {
+        port,
+        queue,
+        reading,
+    })
 }
 
 /// Reads the request from matches of `to-capture`.

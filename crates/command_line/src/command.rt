@@ -15,10 +15,11 @@ ghost use Rattle.command_line.specs.Sayings.{Holds, IsAsked, Says, Saying, name_
 use crate::captures::{from_capture_in, to_capture_in};
 use crate::drawings::{draws_any, pictures_in};
 use crate::lists::lists_in;
+use crate::mistakes::{completed, error_of};
 use crate::program::program;
 use crate::reading::{flag_in, number_in, word_in};
 use clap::error::ErrorKind;
-use clap::{ArgMatches, Command, Error};
+use clap::{ArgMatches, Error};
 use commands::{Form, QueuePlan, Request, Shown};
 use cover_command::CoverRequest;
 use forward_command::Printing;
@@ -42,6 +43,9 @@ const NOT_DRAWN: &str =
 /// The error for options that select drawn lists together with `--recommended`.
 const NOT_CHOSEN: &str =
     "--recommended cannot be combined with --seed, --moves, --count, --refused or --cover";
+
+/// The error for words without a command.
+const NO_COMMAND: &str = "a command is required";
 
 /// The error for a form of the expected output without `--expect`.
 const NOT_EXPECTED: &str = "--json and --registers need --expect";
@@ -71,36 +75,44 @@ pub fn asked_of<'a>(alloc: Global, words: &'a [String]) -> Result<Asked<'a>, Err
     ensures misuse { IsMisuse (map string_bytes words.entry.now)
         → IsErrAnd result (λ e. (kind_of e ≡ OutOfMemory) ⊎ IsMistake (kind_of e)) }
 {
+    match parsed(alloc, words) {
+        Ok(asked) => Ok(asked),
+        Err(error) => Err(completed(alloc, words, error)),
+    }
+}
+
+/// The same, with the errors of `clap` as they are.
+fn parsed<'a>(alloc: Global, words: &'a [String]) -> Result<Asked<'a>, Error>
+    ensures said { (saying : Saying) → Says (map string_bytes words.entry.now) saying
+        → MatchResult result (IsAsked saying) (λ e. kind_of e ≡ OutOfMemory) }
+    ensures can_be_done { IfOk result CanBeDone }
+    ensures misuse { IsMisuse (map string_bytes words.entry.now)
+        → IsErrAnd result (λ e. (kind_of e ≡ OutOfMemory) ⊎ IsMistake (kind_of e)) }
+{
     let mut program = program(alloc)?;
     let matches = program.try_get_matches_from_mut(words)?;
     match asked_in(&matches) {
         Some(asked) => Ok(asked),
-        None => Err(fault(&mut program, &matches)),
+        None => Err(fault(alloc, &matches)),
     }
 }
 
 /// Returns the error for matches without a request.
-fn fault<'a>(program: &mut Command<'a>, matches: &ArgMatches<'a>) -> Error {
-    let (kind, text) = fault_in(matches);
-    match program.error(kind, text) {
-        Ok(told) => told,
-        Err(memory) => Error::from(memory),
-    }
-}
-
-/// Returns the kind and the text of that error.
-fn fault_in<'a>(matches: &ArgMatches<'a>) -> (ErrorKind, &'static str) {
+fn fault<'a>(alloc: Global, matches: &ArgMatches<'a>) -> Error {
     match matches.subcommand() {
-        Some(("schedules", found)) => schedules_fault_in(found),
-        Some(("replay", found)) if found.get_flag("json") => {
-            (ErrorKind::ArgumentConflict, NOT_SHOWN)
+        Some(("schedules", found)) => {
+            let (kind, text) = schedules_fault_in(found);
+            error_of(alloc, "schedules", kind, text)
         }
-        Some(("replay", _)) => (ErrorKind::InvalidValue, NOT_SHOWN),
-        _ => (ErrorKind::MissingRequiredArgument, NOT_SAID),
+        Some((name, found)) if found.get_flag("json") => {
+            error_of(alloc, name, ErrorKind::ArgumentConflict, NOT_SHOWN)
+        }
+        Some((name, _)) => error_of(alloc, name, ErrorKind::InvalidValue, NOT_SHOWN),
+        None => error_of(alloc, "", ErrorKind::MissingSubcommand, NO_COMMAND),
     }
 }
 
-/// Returns the same for matches of `schedules`.
+/// Returns the kind and the text of the error for matches of `schedules`.
 fn schedules_fault_in<'a>(found: &ArgMatches<'a>) -> (ErrorKind, &'static str) {
     let has_form = found.get_flag("json") || found.get_flag("registers");
     if has_form && !found.get_flag("expect") {

@@ -6,9 +6,12 @@ ghost use Rattle.clap.specs.declared.error.kind.ErrorKind.TheVariants.{OutOfMemo
 ghost use Rattle.forwarder.specs.declared.config.Config.{Config as ForwardConfig};
 ghost use Rattle.forward_command.specs.declared.printing.Printing.{Printing as Printed};
 ghost use Rattle.command_line.specs.CommandLine.{SaysForward};
-ghost use Rattle.command_line.specs.FileWords.{AreFiles, AreTold, FileOptions, HasFiles, HoldsFiles, file_values};
+ghost use Rattle.command_line.specs.FileWords.{AreFiles, AreTold, FileOptions, HasFiles, HoldsFiles, file_values, lacks_captures};
 
+use crate::mistakes::error_of;
 use crate::program::program;
+use crate::reading::reading_in;
+use capture::ReadOptions;
 use clap::error::ErrorKind;
 use clap::{ArgMatches, Error};
 use forward_command::captured::{Source, WireFile, source_of, wire_file_of};
@@ -18,17 +21,22 @@ use std::alloc::{AllocError, Global};
 const NO_FILE: &str =
     "--capture takes PORT:QUEUE=FILE, for example 0:3=x.pcap; --wire-capture takes PORT=FILE, for example 1=y.pcap";
 
+/// The error for options of captures without a capture.
+const NO_CAPTURE: &str = "--skip and --limit need --capture";
+
 /// The files of `forward`: captures whose frames come in, and files for the frames that leave a port.
 #[derive(Drop)]
 pub struct ForwardFiles<'a> {
     /// The captures of `--capture`, in the order of the words.
     pub sources: Vec<Source<'a>>,
+    /// How these are read.
+    pub reading: ReadOptions,
     /// The files of `--wire-capture`, in the order of the words.
     pub wires: Vec<WireFile<'a>>,
 }
 
 /// Parses the files in the words after the program's name, which ask for `forward`. Returns an error of `clap` if one
-/// of them is malformed or memory is missing.
+/// of them is malformed, if captures are to be read with options and there are none, or if memory is missing.
 pub fn files_of<'a>(alloc: Global, words: &'a [String]) -> Result<ForwardFiles<'a>, Error>
     ensures { (config : ForwardConfig) (printing : Printed) (files : FileOptions) → SaysForward (map string_bytes words.entry.now) config printing files
         → MatchResult result (λ held. HoldsFiles held files) (λ e. kind_of e ≡ OutOfMemory) }
@@ -37,11 +45,27 @@ pub fn files_of<'a>(alloc: Global, words: &'a [String]) -> Result<ForwardFiles<'
     let matches = program.try_get_matches_from_mut(words)?;
     match files_in(alloc, &matches)? {
         Some(files) => Ok(files),
-        None => Err(program.error(ErrorKind::ValueValidation, NO_FILE)?),
+        None => Err(fault(alloc, &matches)),
     }
 }
 
-/// Parses the files in matches of the program's command line. Returns `None` if one is malformed.
+/// Returns the error for matches whose files are not valid.
+fn fault<'a>(alloc: Global, matches: &ArgMatches<'a>) -> Error {
+    let (kind, text) = match matches.subcommand() {
+        Some((_, forward)) if !forward.contains_id("capture") && has_options(forward) => {
+            (ErrorKind::MissingRequiredArgument, NO_CAPTURE)
+        }
+        _ => (ErrorKind::ValueValidation, NO_FILE),
+    };
+    error_of(alloc, "forward", kind, text)
+}
+
+/// Whether captures are to be read with options.
+fn has_options<'a>(forward: &ArgMatches<'a>) -> bool {
+    forward.get_flag("skip") || forward.contains_id("limit")
+}
+
+/// Parses the files in matches of the program's command line. Returns `None` if they are not valid.
 fn files_in<'a>(
     alloc: Global,
     matches: &ArgMatches<'a>,
@@ -55,7 +79,8 @@ fn files_in<'a>(
     }
 }
 
-/// Parses the files in matches of `forward`. Returns `None` if one is malformed.
+/// Parses the files in matches of `forward`. Returns `None` if one is malformed, or if there is no capture to read with
+/// the options.
 fn files_said<'a>(
     alloc: Global,
     forward: &ArgMatches<'a>,
@@ -69,7 +94,22 @@ fn files_said<'a>(
     let Some(wires) = told_in(alloc, forward, "wire-capture", |word| wire_file_of(word))? else {
         return Ok(None);
     };
-    Ok(Some(ForwardFiles { sources, wires }))
+    let reading = reading_in(forward);
+    if lacks_captures(sources.as_slice(), reading) {
+        return Ok(None);
+    }
+    Ok(Some(ForwardFiles {
+        sources,
+        reading,
+        wires,
+    }))
+}
+
+/// Whether captures are to be read with options, and there are none.
+fn lacks_captures(sources: &[Source<'_>], reading: ReadOptions) -> bool
+    ensures { result ≡ lacks_captures sources.now reading }
+{
+    sources.is_empty() && (reading.skip || reading.limit.is_some())
 }
 
 /// Parses each value of an option. Returns `None` if one is malformed.

@@ -17,6 +17,7 @@ mod drawings;
 mod expects;
 mod files;
 mod lists;
+mod mistakes;
 mod program;
 mod reading;
 mod running;

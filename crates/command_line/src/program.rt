@@ -42,15 +42,24 @@ const HEAD: Param = Param::Flag {
     help: "Report transmitted descriptors by head write-back instead of DD",
 };
 
+/// That a refusal is explained, whatever standard error is.
+const EXPLAIN: Param = Param::Flag {
+    id: "explain",
+    help: "Explain a refusal in a second line; the default on a terminal",
+};
+
 /// The commands, each with its parameters.
-const COMMANDS: &[Entry] = &[
+pub(crate) const COMMANDS: &[Entry] = &[
     Entry {
         name: "once",
         about: "Pass one frame through a receive ring of 8 descriptors and print it",
         examples: "Example:\n  poll82599 once 000102030405060708090a0b0c0d\n  prints 000102030405060708090a0b0c0d",
-        params: &[Param::Hex {
-            help: "A frame of 14 to 14,336 bytes, two hex digits per byte",
-        }],
+        params: &[
+            Param::Hex {
+                help: "A frame of 14 to 14,336 bytes, two hex digits per byte",
+            },
+            EXPLAIN,
+        ],
     },
     Entry {
         name: "decode",
@@ -72,6 +81,7 @@ const COMMANDS: &[Entry] = &[
             Param::Hex {
                 help: "The 16 bytes of the descriptor, two hex digits per byte",
             },
+            EXPLAIN,
         ],
     },
     Entry {
@@ -101,11 +111,12 @@ const COMMANDS: &[Entry] = &[
                 value: "each",
                 help: "Draw the queue after each move, one line per place; with =last only after the last move. Not with --json",
             },
+            EXPLAIN,
         ],
     },
     Entry {
         name: "forward",
-        about: "Forward the frames of a script between two ports, and print the frames that left and the counts of each flow. The script is read from standard input, one frame per line",
+        about: "Forward the frames of a script between two ports, and print the frames that left and the counts of each flow. The script is read from standard input, one frame per line; with --capture, only if standard input is not a terminal and no capture",
         examples: "Examples:\n  echo '0 0 fill 14 05' | poll82599 forward\n  prints 1 0 0506050505050505050505050505\n  and flow 0 0 offered 1 stored 1 dropped 0 oversize 0 taken 1 posted 1 tx-dropped 0 wire 1 left 0 ended drained\n  and flow 1 0 offered 0 stored 0 dropped 0 oversize 0 taken 0 posted 0 tx-dropped 0 wire 0 left 0 ended drained\n\n  echo '1 0 fill 9000 00' | poll82599 forward --ring 8 --bsize 1024\n  prints flow 0 0 offered 0 stored 0 dropped 0 oversize 0 taken 0 posted 0 tx-dropped 0 wire 0 left 0 ended drained\n  and flow 1 0 offered 1 stored 0 dropped 0 oversize 1 taken 0 posted 0 tx-dropped 0 wire 0 left 0 ended drained",
         params: &[
             Param::Number {
@@ -175,13 +186,22 @@ const COMMANDS: &[Entry] = &[
             Param::File {
                 id: "capture",
                 name: "P:Q=FILE",
-                help: "Forward the frames of the capture FILE, which enter port P, queue Q, instead of a script; may be repeated",
+                help: "Forward the frames of the capture FILE, which enter port P, queue Q, before those of a script; may be repeated",
+            },
+            Param::Flag {
+                id: "skip",
+                help: "Leave out records of captures that are truncated, cut by a snap length, longer than 15,000 or shorter than 14 bytes, and report how many",
+            },
+            Param::Said {
+                id: "limit",
+                help: "Read at most this many frames of each capture, 0 to 4,294,967,295",
             },
             Param::File {
                 id: "wire-capture",
                 name: "P=FILE",
                 help: "Write what leaves port P to the capture FILE, queue by queue, frame k at k microseconds; may be repeated",
             },
+            EXPLAIN,
         ],
     },
     Entry {
@@ -195,20 +215,32 @@ const COMMANDS: &[Entry] = &[
             Param::Queue {
                 help: "Queue of that port, 0 to 7",
             },
+            Param::Flag {
+                id: "skip",
+                help: "Leave out records that are truncated, cut by a snap length, longer than 15,000 or shorter than 14 bytes, and report on standard error how many",
+            },
+            Param::Said {
+                id: "limit",
+                help: "Read at most this many frames, 0 to 4,294,967,295",
+            },
+            EXPLAIN,
         ],
     },
     Entry {
         name: "to-capture",
         about: "Write the frames of one port as a capture. The frames are read from standard input: a script, or the output of forward. Frame k has the time k microseconds",
         examples: "Example:\n  echo '0 0 fill 60 05' | poll82599 forward | poll82599 to-capture 1 | tcpdump -r -\n  shows what left port 1",
-        params: &[Param::Port {
-            help: "Port whose frames are written, 0 or 1",
-        }],
+        params: &[
+            Param::Port {
+                help: "Port whose frames are written, 0 or 1",
+            },
+            EXPLAIN,
+        ],
     },
     Entry {
         name: "schedules",
         about: "Print lists of moves for testing a driver or an emulator: drawn from a seed, the same on every machine, or covering everything that one queue can do",
-        examples: "Examples:\n  poll82599 schedules --seed 1 --moves 4\n  prints r0 A1 50788\n  and t0 B1 4685 14 0 0 31\n  and t0 B1 44665 17 1 1 31\n  and t0 B7\n  and # end\n\n  poll82599 schedules --cover --device-only-real\n  prints first # r0 A4 driver On controller serving: not enabled\n  and r0 A4\n  and # end\n\nWhich lists to use:\n  The covering lists (--cover) are short. Each meets one pair of a state and a move on a queue of 8, so they miss mistakes that show\n  only late in a long list. Of 14 mistakes in an emulator that was written from the documentation alone, they found 5; the\n  recommended lists (--recommended, without and with --head) found 13; drawn lists without refused moves found 5.",
+        examples: "Examples:\n  poll82599 schedules --seed 1 --moves 4\n  prints r0 A1 50788\n  and t0 B1 4685 14 0 0 31\n  and t0 B1 44665 17 1 1 31\n  and t0 B7\n  and # end\n\n  poll82599 schedules --cover --device-only-real\n  prints first # r0 A4 driver On controller serving: not enabled\n  and r0 A4\n  and # end\n\nWhich lists to use:\n  The covering lists (--cover) are short. Each meets one pair of a state and a move on a queue of 8, so they miss mistakes that show\n  only late in a long list. Of 14 mistakes in an emulator that was written from the documentation alone, they found 5; drawn\n  lists of the size of --recommended, without and with --head, from other seeds found 13; drawn lists without refused moves found 5.",
         params: &[
             Param::Said {
                 id: "seed",
@@ -255,6 +287,7 @@ const COMMANDS: &[Entry] = &[
                 id: "recommended",
                 help: "Print the recommended lists: 4 lists of 2,000 moves from a fixed seed, of which at most 10 in 100 are not enabled. Run it without and with --head. Cannot be combined with --seed, --moves, --count, --refused or --cover",
             },
+            EXPLAIN,
         ],
     },
 ];

@@ -1,13 +1,14 @@
 //! Runs the program: from its words to a request, and from the request to an exit status.
-ghost use Rattle.std.specs.Prelude.{◌≡◌, ◌≢◌, ◌⊎◌, [], None, false, map};
+ghost use Rattle.std.specs.Prelude.{◌≡◌, ◌⊎◌, None, false, map};
 ghost use Rattle.std.specs.String.{string_bytes};
 ghost use Rattle.std.specs.Io.KnownBytes.{Keeps};
 ghost use Rattle.clap.specs.Words.{kind_of};
 ghost use Rattle.clap.specs.declared.error.kind.ErrorKind.TheVariants.{OutOfMemory};
 ghost use Rattle.command_line.specs.CommandLine.{IsMistake, IsMisuse, SaysForward};
-ghost use Rattle.command_line.specs.FileWords.{FileOptions};
+ghost use Rattle.command_line.specs.FileWords.{FileOptions, intake_of};
 ghost use Rattle.command_line.specs.Forwarding.{EndsForwarding};
 ghost use Rattle.forward_command.specs.declared.printing.Printing.{Printing};
+ghost use Rattle.forward_command.specs.Intakes.{reads_script};
 ghost use Rattle.forward_command.specs.Streams.{outlet, streamed_port};
 ghost use Rattle.forwarder.specs.declared.config.Config.{Config};
 ghost use Rattle.command_line.specs.Sayings.{EndsSaid, IsUnshown, Says, Saying};
@@ -17,6 +18,7 @@ use crate::files::files_of;
 use clap::error::ErrorKind;
 use commands::{DONE, REFUSED, Refusal, answer, refuse};
 use forward_command::Printing as Printed;
+use forward_command::captured::Intake;
 use forwarder::Config as ForwardConfig;
 use std::alloc::Global;
 use std::io::{IsTerminal, Read, Write};
@@ -39,8 +41,8 @@ const EXPLAIN: &str = "--explain";
 /// are any. An error of the command line goes to `faults`, with status 2. A failed write to `faults` does not change
 /// the status.
 ///
-/// With `forward --capture`, the frames of captures are forwarded and `input` is not read; the file `-` is opened as
-/// `/dev/stdin`. The frames that leave a port also go to the files of `--wire-capture`; if one is standard output, its
+/// With `forward --capture`, the frames of captures are forwarded, and then those of the script of `input`, unless `input`
+/// is a terminal, as `is_terminal` says, or one of the captures. The frames that leave a port also go to the files of `--wire-capture`; if one is standard output, its
 /// capture replaces the page on `output`, and the counts go to `screen`. `screen` is a second handle to standard error,
 /// where `forward --progress` and `schedules --cover` show their progress.
 ///
@@ -57,6 +59,7 @@ pub fn run<
     alloc: Global,
     words: &[String],
     input: &mut I,
+    is_terminal: bool,
     output: &mut W,
     faults: &mut E,
     screen: &mut M,
@@ -68,18 +71,18 @@ pub fn run<
     ensures misuse { IsMisuse (map string_bytes words.now)
         → ((result ≡ MISUSED) ⊎ (result ≡ REFUSED)) × Keeps (W.contents output.old) (W.contents output.new) }
     ensures ends { (saying : Saying) → Says (map string_bytes words.now) saying
-        → EndsSaid saying (I.remaining input.old) result (W.contents output.old) (W.contents output.new) }
+        → EndsSaid saying is_terminal (I.remaining input.old) result (W.contents output.old) (W.contents output.new) }
     ensures unread { (config : Config) (printing : Printing) (files : FileOptions) → SaysForward (map string_bytes words.now) config printing files
-        → files.sources ≢ [] → input.new ≡ input.old }
+        → reads_script (intake_of files is_terminal) ≡ false → input.new ≡ input.old }
 {
     let explain = screen.is_terminal() || says_explain(words);
     match asked_of(alloc, words) {
         Ok(Asked::Request(request)) => answer(rt, alloc, request, input, output, faults, explain),
         Ok(Asked::Forward { config, printing }) => forward(
-            rt, alloc, words, &config, printing, input, output, faults, screen, explain,
+            rt, alloc, words, &config, printing, input, is_terminal, output, faults, screen, explain,
         ),
         Ok(Asked::Capture(request)) => {
-            forward_command::piped::answer(alloc, request, input, output, faults, explain)
+            forward_command::piped::answer(alloc, request, input, output, faults, screen, explain)
         }
         Ok(Asked::Schedules(request)) => {
             schedule_command::answer(alloc, &request, output, faults, explain)
@@ -110,6 +113,7 @@ fn forward<
     config: &ForwardConfig,
     printing: Printed,
     input: &mut I,
+    is_terminal: bool,
     output: &mut W,
     faults: &mut E,
     screen: &mut M,
@@ -119,11 +123,11 @@ fn forward<
     ensures done { result ≡ DONE → Keeps (E.contents faults.old) (E.contents faults.new) }
     ensures misused { result ≡ MISUSED → Keeps (W.contents output.old) (W.contents output.new) }
     ensures screen { (said : Config) (shown : Printing) (files : FileOptions) → SaysForward (map string_bytes words.now) said shown files
-        → printing.progress ≡ false → streamed_port files.wires ≡ None → config.now.turns ≡ 0 → screen.new ≡ screen.old }
+        → printing.progress ≡ false → streamed_port files.wires ≡ None → files.reading.skip ≡ false → config.now.turns ≡ 0 → screen.new ≡ screen.old }
     ensures ends { (said : Config) (shown : Printing) (files : FileOptions) → SaysForward (map string_bytes words.now) said shown files
-        → EndsForwarding config.now (outlet printing files.wires) files.sources (I.remaining input.old) result (W.contents output.old) (W.contents output.new) }
+        → EndsForwarding config.now (outlet printing files.wires) (intake_of files is_terminal) (I.remaining input.old) result (W.contents output.old) (W.contents output.new) }
     ensures unread { (said : Config) (shown : Printing) (files : FileOptions) → SaysForward (map string_bytes words.now) said shown files
-        → files.sources ≢ [] → input.new ≡ input.old }
+        → reads_script (intake_of files is_terminal) ≡ false → input.new ≡ input.old }
 {
     match files_of(alloc, words) {
         Ok(files) => forward_command::captured::answer(
@@ -131,7 +135,11 @@ fn forward<
             alloc,
             config,
             printing,
-            files.sources.as_slice(),
+            &Intake {
+                sources: files.sources.as_slice(),
+                reading: files.reading,
+                is_terminal,
+            },
             files.wires.as_slice(),
             input,
             output,

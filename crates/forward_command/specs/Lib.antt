@@ -2,6 +2,8 @@ pub mod Objects
 pub mod Text
 pub mod Forwards
 pub mod Requests
+pub mod Skips
+pub mod Intakes
 pub mod Flows
 pub mod Meanings
 pub mod Words

@@ -1,8 +1,10 @@
 -- The conversions of `from-capture` and `to-capture`, and how the commands end.
-use Rattle.std.specs.Prelude.{◌≡◌, ◌⊎◌, ℕ, List, map, Option, Result, Ok, Err, IfSome, IsOk}
+use Rattle.std.specs.Prelude.{◌≡◌, ◌⊎◌, ℕ, List, map, Option, Result, Ok, Err, IfOk, IfSome, IsOk}
 use Rattle.std.specs.Result.{result_map_both}
 use Rattle.std.specs.Io.KnownBytes.{Appends, Keeps}
-use Rattle.capture.specs.Reading.{capture_in}
+use Rattle.capture.specs.Reading.{capture_with}
+use Rattle.capture.specs.declared.options.ReadOptions.{ReadOptions}
+use Rattle.capture.specs.declared.options.Skipped.{Skipped}
 use Rattle.capture.specs.Writing.{capture_of}
 use Rattle.refusals.specs.declared.errors.CaptureError.TheVariants.{Memory as NoRecords}
 use Rattle.capture.specs.Frames.{frames_at}
@@ -18,10 +20,14 @@ use Rattle.forward_command.specs.declared.piped.request.CaptureRequest.{CaptureR
 use Rattle.forward_command.specs.declared.piped.request.CaptureRequest.TheVariants.{FromCapture, ToCapture}
 use Rattle.forward_command.specs.Flows.{passed_line}
 
--- a capture's frames as script lines at this port and queue, or the capture's first fault
-abbrev pub lines_meant : ℕ → ℕ → List ℕ → Result (List ℕ) Refusal
-lines_meant port queue bytes =
-    result_map_both (λ c. text_for (frames_at port queue c.records)) (λ e. refusal.Capture e) (capture_in bytes)
+-- the frames of a capture, read with these options, as script lines at this port and queue, or the capture's first fault
+abbrev pub lines_meant : ℕ → ℕ → ReadOptions → List ℕ → Result (List ℕ) Refusal
+lines_meant port queue reading bytes =
+    result_map_both (λ c. text_for (frames_at port queue c.0.records)) (λ e. refusal.Capture e) (capture_with reading bytes)
+
+-- these records are left out of a capture
+abbrev pub IsSkipped : ReadOptions → List ℕ → Skipped → Type 0
+IsSkipped reading bytes skipped = IfOk (capture_with reading bytes) (λ c. c.1 ≡ skipped)
 
 -- the frames of a text's lines without those of flows, or the first fault
 abbrev pub wires_in : List ℕ → Result (List Frame) ScriptError
@@ -34,7 +40,7 @@ capture_meant port text =
 
 -- the result of a request on the input's bytes
 abbrev pub meant : CaptureRequest → List ℕ → Result (List ℕ) Refusal
-meant (FromCapture port queue) bytes = lines_meant port queue bytes
+meant (FromCapture port queue reading) bytes = lines_meant port queue reading bytes
 meant (ToCapture port) bytes = capture_meant port bytes
 
 -- memory was missing to read a capture or a script, whatever its contents

@@ -17,6 +17,7 @@ mod page;
 pub mod piped;
 mod printing;
 pub mod progress;
+mod skips;
 mod text;
 
 pub use answering::{answer, perform};

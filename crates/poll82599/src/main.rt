@@ -12,6 +12,7 @@ use commands::{Refusal, refuse};
 use pipe::{Faults, GONE, Output};
 use std::cell::Cell;
 use std::process::ExitCode;
+use std::io::IsTerminal;
 use std::rt::Env;
 use std::{env, io};
 
@@ -26,11 +27,14 @@ fn main(rt: HostRuntime) -> ExitCode {
     let Ok(words) = words_of(&rt) else {
         return ExitCode::from(refuse(&mut faults, Refusal::Memory));
     };
+    let mut input = rt.stdin();
+    let is_terminal = input.is_terminal();
     let status = run(
         &rt,
         rt.alloc(),
         words.as_slice(),
-        &mut rt.stdin(),
+        &mut input,
+        is_terminal,
         &mut Output::new(rt.stdout(), &is_gone),
         &mut faults,
         &mut rt.stderr(),

@@ -13,6 +13,7 @@ mod forty;
 mod forward_rows;
 mod forward_tests;
 mod from_tests;
+mod reading_tests;
 mod helped;
 mod shown_tests;
 mod stream_tests;

@@ -45,7 +45,25 @@ impl Told {
     }
 }
 
-/// The status of a run on these words and streams.
+/// The status of a run on these words and streams, with an input that may be a terminal.
+fn status_from<R: Host, I: Read, W: Write, E: Write>(
+    rt: &R,
+    alloc: Global,
+    words: &[&str],
+    (input, is_terminal): (&mut I, bool),
+    output: &mut W,
+    faults: &mut E,
+    screen: &mut Screen,
+) -> Result<u8, AllocError> {
+    let mut given = Vec::new(alloc);
+    for word in words {
+        given.push(String::from_str(alloc, word)?)?;
+    }
+    let words = given.as_slice();
+    Ok(run(rt, alloc, words, input, is_terminal, output, faults, screen))
+}
+
+/// The same for an input that is no terminal.
 pub fn status_of<R: Host, I: Read, W: Write, E: Write>(
     rt: &R,
     alloc: Global,
@@ -55,23 +73,19 @@ pub fn status_of<R: Host, I: Read, W: Write, E: Write>(
     faults: &mut E,
     screen: &mut Screen,
 ) -> Result<u8, AllocError> {
-    let mut given = Vec::new(alloc);
-    for word in words {
-        given.push(String::from_str(alloc, word)?)?;
-    }
-    Ok(run(rt, alloc, given.as_slice(), input, output, faults, screen))
+    status_from(rt, alloc, words, (input, false), output, faults, screen)
 }
 
 /// The result of a run on these words, this input and this screen.
-pub fn outcome_on<R: Host, I: Read>(
+fn outcome_from<R: Host, I: Read>(
     rt: &R,
     alloc: Global,
     words: &[&str],
-    input: &mut I,
+    input: (&mut I, bool),
     mut screen: Screen,
 ) -> Result<Told, AllocError> {
     let (mut output, mut faults) = (Vec::new(alloc), Vec::new(alloc));
-    let status = status_of(
+    let status = status_from(
         rt,
         alloc,
         words,
@@ -86,6 +100,27 @@ pub fn outcome_on<R: Host, I: Read>(
         faults,
         shown: screen.shown,
     })
+}
+
+/// The same for an input that is no terminal.
+pub fn outcome_on<R: Host, I: Read>(
+    rt: &R,
+    alloc: Global,
+    words: &[&str],
+    input: &mut I,
+    screen: Screen,
+) -> Result<Told, AllocError> {
+    outcome_from(rt, alloc, words, (input, false), screen)
+}
+
+/// The result of a run on these words and this input, which is a terminal. The screen is none.
+pub fn typed_by<R: Host, I: Read>(
+    rt: &R,
+    alloc: Global,
+    words: &[&str],
+    input: &mut I,
+) -> Result<Told, AllocError> {
+    outcome_from(rt, alloc, words, (input, true), Screen::new(alloc, false))
 }
 
 /// The same without a terminal.

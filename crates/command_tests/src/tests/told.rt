@@ -1,6 +1,6 @@
 //! Checks runs of the program on words and an input.
 
-use crate::tests::runs::{Host, is_page, text_of, told_by};
+use crate::tests::runs::{Host, Told, is_page, text_of, told_by};
 use crate::tests::streams::Broken;
 use crate::tests::wanted::same;
 use commands::{REFUSED, Refusal, refuse};
@@ -27,12 +27,22 @@ pub fn comes_to<R: Host, I: Read>(
     (output, faults): (&[u8], &str),
 ) {
     let told = told_by(rt, alloc, words, input).expect(rt, "a run");
+    is_told(rt, words, &told, (output, faults, ""));
+}
+
+/// A run on these words has this output, these faults, and this on the screen. Its status is 1 if there are faults.
+pub fn is_told<R: Host>(
+    rt: &R,
+    words: &[&str],
+    told: &Told,
+    (output, faults, shown): (&[u8], &str, &str),
+) {
     let status = u8::from(!faults.is_empty());
     let texts = (told.text(), told.faults(), told.shown());
     same(
         rt,
         (words, told.status, texts, told.output.as_slice()),
-        (words, status, (text_of(output), faults, ""), output),
+        (words, status, (text_of(output), faults, shown), output),
     );
 }
 

@@ -22,9 +22,11 @@ const REPLAY: &str = "echo 'r0 A1 5' | poll82599 replay --ring 16\n";
 
 const SCHEDULES: &str = "poll82599 schedules --seed 1 --moves 4\n";
 
-const RECOMMENDED: &str = "they found 5; the\n  recommended lists (--recommended,";
+const RECOMMENDED: &str = "drawn\n  lists of the size of --recommended,";
 
 const COVER: &str = "poll82599 schedules --cover --device-only-real";
+
+const EXPLAINED: &str = "Explain a refusal in a second line; the default on a terminal\n";
 
 /// The error for an option of drawn lists together with `--cover`.
 const NOT_DRAWN: &str = "--cover cannot be combined with";
@@ -62,6 +64,13 @@ const HELPED: &[(&[&str], &str)] = &[
     (&["schedules", "--help"], COVER),
     (&["schedules", "--help"], RECOMMENDED),
     (&["replay", "--help"], "--lists"),
+    (&["once", "--help"], EXPLAINED),
+    (&["decode", "--help"], EXPLAINED),
+    (&["replay", "--help"], EXPLAINED),
+    (&["forward", "--help"], EXPLAINED),
+    (&["from-capture", "--help"], EXPLAINED),
+    (&["to-capture", "--help"], EXPLAINED),
+    (&["schedules", "--help"], EXPLAINED),
 ];
 
 /// Mistaken words, and a text that the error must contain.
@@ -126,6 +135,55 @@ const WRONG: &[(&[&str], &str)] = &[
         NOT_EXPECTED,
     ),
     (&["replay", "--lists", "--lists"], "--lists"),
+    (&["replay", "--explain", "--explain"], "--explain"),
+];
+
+/// Mistaken words of a command, and the end of the error: its usage, after the range of a number.
+const MISUSED: &[(&[&str], &str)] = &[
+    (
+        &["forward", "--ring", "99999999999"],
+        "invalid value '99999999999' for '--ring <N>': Descriptors per ring, a power of two from 8 to 4,096\n\nUsage: poll82599 forward [OPTIONS]\n",
+    ),
+    (
+        &["replay", "--ring", "eight"],
+        "invalid value 'eight' for '--ring <N>': Descriptors per ring, a power of two from 8 to 4,096\n\nUsage: poll82599 replay [OPTIONS]\n",
+    ),
+    (
+        &[
+            "schedules",
+            "--seed",
+            "1",
+            "--moves",
+            "1",
+            "--refused",
+            "101",
+        ],
+        "invalid value '101' for '--refused <N>': Of a hundred moves, at most this many are not enabled, 0 to 100\n\nUsage: poll82599 schedules [OPTIONS]\n",
+    ),
+    (
+        &["from-capture", "2", "0"],
+        "\n\nUsage: poll82599 from-capture [OPTIONS] <PORT> <QUEUE>\n",
+    ),
+    (
+        &["decode", "rx", "sideways", "00"],
+        "\n\nUsage: poll82599 decode [OPTIONS] <RING> <FORMAT> <HEX>\n",
+    ),
+    (
+        &["forward", "--half"],
+        "\n\nUsage: poll82599 forward [OPTIONS]\n",
+    ),
+    (
+        &["forward", "--capture", "x.pcap"],
+        "\n\nUsage: poll82599 forward [OPTIONS]\n",
+    ),
+    (
+        &["replay", "--json", "--picture"],
+        "\n\nUsage: poll82599 replay [OPTIONS]\n",
+    ),
+    (
+        &["schedules", "--seed", "1"],
+        "\n\nUsage: poll82599 schedules [OPTIONS]\n",
+    ),
 ];
 
 /// Each refusal, and its line.
@@ -190,6 +248,11 @@ fn the_version_goes_to_the_output(rt: HostRuntime) {
 #[test]
 fn wrong_words_are_told_with_status_2(rt: HostRuntime) {
     each_has_page(&rt, rt.alloc(), Page::Mistake, WRONG)
+}
+
+#[test]
+fn wrong_words_of_a_command_are_told_with_its_usage(rt: HostRuntime) {
+    each_has_page(&rt, rt.alloc(), Page::Mistake, MISUSED)
 }
 
 #[test]

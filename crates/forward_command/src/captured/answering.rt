@@ -1,15 +1,17 @@
 //! Serves `forward` with captures, and returns an exit status.
-ghost use Rattle.std.specs.Prelude.{◌≡◌, ◌≢◌, ◌⊎◌, ℕ, List, [], None, Some, false, IfErr, IfOk, OnOk};
+ghost use Rattle.std.specs.Prelude.{◌≡◌, ◌⊎◌, ℕ, List, [], None, Some, false, IfErr, IfOk, OnOk};
 ghost use Rattle.std.specs.Io.KnownBytes.{Keeps};
 ghost use Rattle.commands.specs.declared.answering.TheConstants.{DONE, REFUSED};
 ghost use Rattle.forward_command.specs.Forwards.{EndsForward};
 ghost use Rattle.forward_command.specs.CaptureForwards.{EndsRefused, HasNoPage, IsPage, PrintsPage, WithholdsPage};
+ghost use Rattle.forward_command.specs.Intakes.{reads_script};
 ghost use Rattle.forward_command.specs.Streams.{outlet, streamed_port};
 
+use crate::captured::intake::Intake;
 use crate::captured::refused::{Refused, tell};
 use crate::captured::running::{page_for, script_for};
 use crate::captured::targets::targets_of;
-use crate::captured::words::{Source, WireFile};
+use crate::captured::words::WireFile;
 use crate::explaining::{Due, explain_cuts};
 use crate::page::forwarded;
 use crate::printing::Printing;
@@ -23,17 +25,18 @@ use std::sync::Wait;
 use std::thread::Threads;
 use std::time::Clock;
 
-/// Forwards the frames of these captures or, without sources, the script of `input`, and returns an exit status.
+/// Forwards the frames of an intake: those of its captures, and then those of the script of `input` if that is read
+/// ([`Intake::reads_script`]). Returns an exit status.
 ///
 /// Prints the wires and counts to `output`, with status 0, and writes the frames that left a port to its wire files.
 /// If a wire file is standard output (`-` or `/dev/stdout`), prints that capture to `output` instead, and the counts
-/// to `screen`. Prints a refusal to `faults` as one line, with status 1, after the name of the file that it concerns,
+/// to `screen`. If records were left out of a capture, a line on `screen` says how many, and with `json` an object on
+/// `output`. Prints a refusal to `faults` as one line, with status 1, after the name of the file that it concerns,
 /// if any. Shows progress on `screen`, if selected. With `explain`, a second line explains a refusal, and a line on
 /// `screen` names each flow that was cut before all its frames were offered.
 ///
-/// With sources, `input` is not read. The first of these refusals applies: a wire file that cannot be written, or
-/// that is the same file as another or as a source, before anything else is done; a source, in order; the refusals of
-/// `forward` for a script; a lack of memory for the output; a wire file; and the output, which is printed last.
+/// The first of these refusals applies: a wire file that cannot be written, or that is the same file as another or as a
+/// capture, before anything else is done; a capture, in order; the refusals of `forward` for a script; a lack of memory for the output; a wire file; and the output, which is printed last.
 pub fn answer<
     R: Threads + Wait + Clock + Sync + Files,
     I: Read,
@@ -45,7 +48,7 @@ pub fn answer<
     alloc: Global,
     config: &Config,
     printing: Printing,
-    sources: &[Source<'_>],
+    intake: &Intake<'_, '_>,
     wires: &[WireFile<'_>],
     input: &mut I,
     output: &mut W,
@@ -55,18 +58,18 @@ pub fn answer<
 ) -> u8
     ensures status { (result ≡ DONE) ⊎ (result ≡ REFUSED) }
     ensures done { result ≡ DONE → Keeps (E.contents faults.old) (E.contents faults.new) }
-    ensures forward { sources.now ≡ [] → streamed_port wires.now ≡ None → (text : List ℕ) → I.remaining input.old ≡ Some text
+    ensures forward { intake.now.sources ≡ [] → streamed_port wires.now ≡ None → (text : List ℕ) → I.remaining input.old ≡ Some text
         → EndsForward config.now printing text result (W.contents output.old) (W.contents output.new) }
     ensures captured { result ≡ DONE
-        → PrintsPage config.now (outlet printing wires.now) sources.now (I.remaining input.old) (W.contents output.old) (W.contents output.new) }
+        → PrintsPage config.now (outlet printing wires.now) intake.now (I.remaining input.old) (W.contents output.old) (W.contents output.new) }
     ensures refused { result ≡ REFUSED
-        → EndsRefused config.now (outlet printing wires.now) sources.now (I.remaining input.old) (W.contents output.old) (W.contents output.new) }
-    ensures unread { sources.now ≢ [] → input.new ≡ input.old }
-    ensures screen { printing.progress ≡ false → streamed_port wires.now ≡ None → config.now.turns ≡ 0 → screen.new ≡ screen.old }
+        → EndsRefused config.now (outlet printing wires.now) intake.now (I.remaining input.old) (W.contents output.old) (W.contents output.new) }
+    ensures unread { reads_script intake.now ≡ false → input.new ≡ input.old }
+    ensures screen { printing.progress ≡ false → streamed_port wires.now ≡ None → intake.now.reading.skip ≡ false → config.now.turns ≡ 0 → screen.new ≡ screen.old }
 {
     let mut why = String::new(alloc);
     serve(
-        rt, alloc, config, printing, sources, wires, input, output, faults, screen, explain,
+        rt, alloc, config, printing, intake, wires, input, output, faults, screen, explain,
         &mut why,
     )
 }
@@ -83,7 +86,7 @@ fn serve<
     alloc: Global,
     config: &Config,
     printing: Printing,
-    sources: &[Source<'_>],
+    intake: &Intake<'_, '_>,
     wires: &[WireFile<'_>],
     input: &mut I,
     output: &mut W,
@@ -94,23 +97,31 @@ fn serve<
 ) -> u8
     ensures status { (result ≡ DONE) ⊎ (result ≡ REFUSED) }
     ensures done { result ≡ DONE → Keeps (E.contents faults.old) (E.contents faults.new) }
-    ensures forward { sources.now ≡ [] → streamed_port wires.now ≡ None → (text : List ℕ) → I.remaining input.old ≡ Some text
+    ensures forward { intake.now.sources ≡ [] → streamed_port wires.now ≡ None → (text : List ℕ) → I.remaining input.old ≡ Some text
         → EndsForward config.now printing text result (W.contents output.old) (W.contents output.new) }
     ensures captured { result ≡ DONE
-        → PrintsPage config.now (outlet printing wires.now) sources.now (I.remaining input.old) (W.contents output.old) (W.contents output.new) }
+        → PrintsPage config.now (outlet printing wires.now) intake.now (I.remaining input.old) (W.contents output.old) (W.contents output.new) }
     ensures refused { result ≡ REFUSED
-        → EndsRefused config.now (outlet printing wires.now) sources.now (I.remaining input.old) (W.contents output.old) (W.contents output.new) }
-    ensures unread { sources.now ≢ [] → input.new ≡ input.old }
-    ensures screen { printing.progress ≡ false → streamed_port wires.now ≡ None → config.now.turns ≡ 0 → screen.new ≡ screen.old }
+        → EndsRefused config.now (outlet printing wires.now) intake.now (I.remaining input.old) (W.contents output.old) (W.contents output.new) }
+    ensures unread { reads_script intake.now ≡ false → input.new ≡ input.old }
+    ensures screen { printing.progress ≡ false → streamed_port wires.now ≡ None → intake.now.reading.skip ≡ false → config.now.turns ≡ 0 → screen.new ≡ screen.old }
 {
     match perform(
-        rt, alloc, config, printing, sources, wires, input, output, screen, why,
+        rt, alloc, config, printing, intake, wires, input, output, screen, why,
     ) {
         Ok(()) => {
             note_cuts(screen, config.turns, explain, why.as_str());
             DONE
         }
-        Err(refused) => tell(faults, config, sources, wires, refused, why, explain),
+        Err(refused) => tell(
+            faults,
+            config,
+            intake.sources,
+            wires,
+            refused,
+            why,
+            explain,
+        ),
     }
 }
 
@@ -139,21 +150,21 @@ pub fn perform<
     alloc: Global,
     config: &Config,
     printing: Printing,
-    sources: &[Source<'_>],
+    intake: &Intake<'_, '_>,
     wires: &[WireFile<'_>],
     input: &mut I,
     output: &mut W,
     screen: &mut M,
     why: &mut String,
 ) -> Result<(), Refused>
-    ensures done { OnOk result (PrintsPage config.now (outlet printing wires.now) sources.now (I.remaining input.old) (W.contents output.old) (W.contents output.new)) }
+    ensures done { OnOk result (PrintsPage config.now (outlet printing wires.now) intake.now (I.remaining input.old) (W.contents output.old) (W.contents output.new)) }
     ensures refused { IfErr result (λ e.
-        WithholdsPage config.now (outlet printing wires.now) sources.now wires.now (I.remaining input.old) e (W.contents output.old) (W.contents output.new)) }
-    ensures unread { sources.now ≢ [] → input.new ≡ input.old }
-    ensures screen { printing.progress ≡ false → streamed_port wires.now ≡ None → screen.new ≡ screen.old }
+        WithholdsPage config.now (outlet printing wires.now) intake.now wires.now (I.remaining input.old) e (W.contents output.old) (W.contents output.new)) }
+    ensures unread { reads_script intake.now ≡ false → input.new ≡ input.old }
+    ensures screen { printing.progress ≡ false → streamed_port wires.now ≡ None → intake.now.reading.skip ≡ false → screen.new ≡ screen.old }
 {
     let (bytes, text) = page_of(
-        rt, alloc, config, printing, sources, wires, input, screen, why,
+        rt, alloc, config, printing, intake, wires, input, screen, why,
     )?;
     put(bytes.as_slice(), output)?;
     if let Some(text) = text {
@@ -163,34 +174,44 @@ pub fn perform<
     Ok(())
 }
 
-/// Writes the wire files. Returns the bytes for standard output, and the text of the counts if a capture replaces it
-/// there.
+/// Writes the wire files. Returns the bytes for standard output, and the text for standard error: the records that were
+/// left out, and the counts if a capture replaces them on standard output.
 fn page_of<R: Threads + Wait + Clock + Sync + Files, I: Read, M: Write + IsTerminal + Send>(
     rt: &R,
     alloc: Global,
     config: &Config,
     printing: Printing,
-    sources: &[Source<'_>],
+    intake: &Intake<'_, '_>,
     wires: &[WireFile<'_>],
     input: &mut I,
     screen: &mut M,
     why: &mut String,
 ) -> Result<(Vec<u8>, Option<String>), Refused>
-    ensures page { IfOk result (λ p. IsPage config.now (outlet printing wires.now) sources.now (I.remaining input.old) p.0.items) }
-    ensures beside { IfOk result (λ p. streamed_port wires.now ≡ None → p.1 ≡ None) }
-    ensures refused { IfErr result (λ e. HasNoPage config.now sources.now wires.now (I.remaining input.old) e) }
-    ensures unread { sources.now ≢ [] → input.new ≡ input.old }
+    ensures page { IfOk result (λ p. IsPage config.now (outlet printing wires.now) intake.now (I.remaining input.old) p.0.items) }
+    ensures beside { IfOk result (λ p. streamed_port wires.now ≡ None → intake.now.reading.skip ≡ false → p.1 ≡ None) }
+    ensures refused { IfErr result (λ e. HasNoPage config.now intake.now wires.now (I.remaining input.old) e) }
+    ensures unread { reads_script intake.now ≡ false → input.new ≡ input.old }
     ensures screen { printing.progress ≡ false → screen.new ≡ screen.old }
 {
-    let targets = targets_of(rt, alloc, sources, wires)?;
-    let script = script_for(rt, alloc, config.pairs, sources, input, why)?;
+    let targets = targets_of(rt, alloc, intake.sources, wires)?;
+    let (script, skipped) = script_for(rt, alloc, config.pairs, intake, input, why)?;
     let due = Due::of(&script);
     let form = printing.form(screen.is_terminal());
     let report = forwarded(rt, alloc, config, script, screen, form)?;
     let pairs = config.pairs as usize;
     let flows = report.flows.as_slice();
     let _ = explain_cuts(why, pairs, config.turns, &due, flows);
-    let page = page_for(rt, alloc, pairs, printing, wires, targets.as_slice(), flows);
+    let page = page_for(
+        rt,
+        alloc,
+        pairs,
+        printing,
+        intake,
+        skipped.as_slice(),
+        wires,
+        targets.as_slice(),
+        flows,
+    );
     drop(report);
     page
 }

@@ -1,103 +1,67 @@
 //! A forwarding with captures: its script, its output and its wire files.
-ghost use Rattle.std.specs.Prelude.{◌≡◌, ◌≢◌, ◌*◌, ◌≤◌, [], length, None, Ok, IfErr, IfOk, option_map};
+ghost use Rattle.std.specs.Prelude.{◌≡◌, ◌*◌, ◌≤◌, ◌++◌, length, None, false, IfErr, IfOk, option_map};
+ghost use Rattle.std.specs.Option.{option_map_or};
+ghost use Rattle.std.specs.String.{string_bytes};
 ghost use Rattle.commands.specs.declared.refusal.Refusal.TheVariants as refusal;
 ghost use Rattle.limits.specs.declared.profile.TheConstants.{MOST_PAIRS, PORTS};
-ghost use Rattle.forward_command.specs.CaptureForwards.{IsFaulty, IsNoScript, IsScript, IsUnpaged};
-ghost use Rattle.refusals.specs.declared.errors.ScriptError.{ScriptError};
-ghost use Rattle.wire_script.specs.Script.{script_of};
-ghost use Rattle.wire_script.specs.ScriptError.{Fails};
+ghost use Rattle.forward_command.specs.CaptureForwards.{IsNoScript, IsScript, IsUnpaged};
+ghost use Rattle.forward_command.specs.Intakes.{reads_script};
+ghost use Rattle.forward_command.specs.Skips.{skipped_text};
+ghost use Rattle.forward_command.specs.Text.{report_text};
 ghost use Rattle.forward_command.specs.Streams.{IsStreamed, output_bytes, streamed_port};
 
-use crate::captured::gathering::gather;
+use crate::captured::gathering::{Gathered, gather};
+use crate::captured::intake::Intake;
 use crate::captured::refused::{Place, Refused};
+use crate::captured::script::read_script;
+use crate::captured::skipping::skipped_lines;
 use crate::captured::targets::Target;
 use crate::captured::wires::wire_capture;
-use crate::captured::words::{Source, WireFile, names_output};
+use crate::captured::words::{WireFile, names_output};
 use crate::captured::writing::write_wires;
-use crate::explaining::{explain_script, first_beyond};
 use crate::printing::Printing;
+use crate::skips::write_objects;
 use crate::text::text_of;
-use commands::{Excerpt, Refusal, read_text};
+use capture::Skipped;
+use commands::Refusal;
 use flows::FlowReport;
 use std::alloc::Global;
 use std::io::Read;
 use std::rt::Files;
-use wire_script::{Script, WireFrame, parse};
+use wire_script::Script;
 
-/// The script of the sources' captures or, without sources, of the input. Appends the explanation of a fault to `why`,
-/// and that of a frame whose queue is not below `pairs`.
+/// The script: the frames of captures and, if the input is read, those of its script. Also returns how many records
+/// were left out of each capture. Appends the explanation of a fault to `why`, and that of a frame in the input whose
+/// queue is not below `pairs`.
 pub(crate) fn script_for<R: Files, I: Read>(
     rt: &R,
     alloc: Global,
     pairs: u32,
-    sources: &[Source<'_>],
+    intake: &Intake<'_, '_>,
     input: &mut I,
     why: &mut String,
-) -> Result<Script, Refused>
-    ensures script { IfOk result (λ script. IsScript sources.now (I.remaining input.old) script) }
-    ensures refused { IfErr result (λ e. IsNoScript sources.now (I.remaining input.old) e) }
-    ensures unread { sources.now ≢ [] → input.new ≡ input.old }
+) -> Result<(Script, Vec<Skipped>), Refused>
+    ensures script { IfOk result (λ p. IsScript intake.now (I.remaining input.old) p.0 p.1.items) }
+    ensures refused { IfErr result (λ e. IsNoScript intake.now (I.remaining input.old) e) }
+    ensures unread { reads_script intake.now ≡ false → input.new ≡ input.old }
 {
-    if sources.is_empty() {
-        Ok(read_script(alloc, pairs, input, why)?)
-    } else {
-        gather(rt, alloc, sources, why)
+    let Gathered { frames, skipped } = gather(rt, alloc, intake.reading, intake.sources, why)?;
+    if !intake.reads_script() {
+        return Ok((Script::new(frames), skipped));
     }
+    let script = read_script(alloc, pairs, frames, input, why)?;
+    Ok((script, skipped))
 }
 
-/// The script of the input.
-fn read_script<I: Read>(
-    alloc: Global,
-    pairs: u32,
-    input: &mut I,
-    why: &mut String,
-) -> Result<Script, Refusal>
-    ensures script { IfOk result (λ script. IsScript [] (I.remaining input.old) script) }
-    ensures refused { IfErr result (λ e. IsFaulty (I.remaining input.old) e) }
-{
-    let text = read_text(alloc, input)?;
-    let script = parsed(alloc, text.as_slice(), why)?;
-    explain_queue(why, pairs, text.as_slice(), &script);
-    Ok(script)
-}
-
-/// Parses a script. Appends the explanation of a fault to `why`.
-fn parsed(alloc: Global, text: &[u8], why: &mut String) -> Result<Script, Refusal>
-    ensures script { IfOk result (λ script. script_of text.now ≡ Ok script) }
-    ensures refused { IfErr result (λ e. (fault : ScriptError) × (e ≡ refusal.Script fault) × Fails fault (script_of text.now)) }
-{
-    match parse(alloc, text) {
-        Ok(script) => Ok(script),
-        Err(fault) => {
-            let _ = explain_script(why, text, fault);
-            Err(Refusal::Script(fault))
-        }
-    }
-}
-
-/// Explains the first line whose queue is not below `pairs`, if there is one.
-fn explain_queue(why: &mut String, pairs: u32, text: &[u8], script: &Script) {
-    let fits = |frame: &WireFrame| u32::from(frame.queue()) < pairs;
-    if script.frames().iter().all(fits) {
-        return;
-    }
-    if let Some((line, queue)) = first_beyond(text, pairs) {
-        let most = pairs.saturating_sub(1);
-        let _ = write!(
-            why,
-            "line {line} names queue {}, but --pairs {pairs} has queues 0 to {most}",
-            Excerpt(queue)
-        );
-    }
-}
-
-/// Writes the wire files. Returns the bytes for standard output, and the text of the counts if a capture replaces it
-/// there.
+/// Writes the wire files. Returns the bytes for standard output, and the text for standard error: the records that were
+/// left out, and the counts if a capture replaces them on standard output.
 pub(crate) fn page_for<R: Files>(
     rt: &R,
     alloc: Global,
     pairs: usize,
     printing: Printing,
+    intake: &Intake<'_, '_>,
+    skipped: &[Skipped],
     wires: &[WireFile<'_>],
     targets: &[Target],
     flows: &[FlowReport],
@@ -105,16 +69,61 @@ pub(crate) fn page_for<R: Files>(
     requires pairs { pairs ≤ MOST_PAIRS }
     requires flows { length flows.now ≡ PORTS * pairs }
     requires targets { length targets.now ≡ length wires.now }
-    ensures page { IfOk result (λ p. p.0.items ≡ output_bytes printing (streamed_port wires.now) pairs flows.now) }
-    ensures beside { IfOk result (λ p. streamed_port wires.now ≡ None → p.1 ≡ None) }
+    ensures page { IfOk result (λ p. p.0.items
+        ≡ output_bytes printing (streamed_port wires.now) pairs flows.now (skipped_text printing.json intake.now.reading.skip skipped.now)) }
+    ensures beside { IfOk result (λ p. streamed_port wires.now ≡ None → intake.now.reading.skip ≡ false → p.1 ≡ None) }
     ensures refused { IfErr result (λ e. IsUnpaged wires.now e) }
 {
-    let page = text_of(alloc, flows, pairs, printing)?;
+    let skip = intake.reading.skip;
+    let page = text_with(alloc, pairs, printing, skip, skipped, flows)?;
+    let lines = skipped_lines(alloc, intake.sources, skip, skipped)?;
     let stream = streamed(alloc, pairs, wires, flows)?;
+    let outputs = placed(page, lines, stream)?;
     write_wires(rt, alloc, pairs, wires, targets, flows)?;
-    match stream {
-        Some(capture) => Ok((capture, Some(page))),
-        None => Ok((page.into_bytes(), None)),
+    Ok(outputs)
+}
+
+/// The text of the report, and of the records that were left out.
+fn text_with(
+    alloc: Global,
+    pairs: usize,
+    printing: Printing,
+    skip: bool,
+    skipped: &[Skipped],
+    flows: &[FlowReport],
+) -> Result<String, Refusal>
+    requires pairs { pairs ≤ MOST_PAIRS }
+    requires flows { length flows.now ≡ PORTS * pairs }
+    ensures text { IfOk result (λ text. string_bytes text ≡ report_text printing pairs flows.now ++ skipped_text printing.json skip skipped.now) }
+    ensures refused { IfErr result (λ e. e ≡ refusal.Memory) }
+{
+    let mut text = text_of(alloc, flows, pairs, printing)?;
+    if printing.json && skip {
+        write_objects(&mut text, skipped)?;
+    }
+    Ok(text)
+}
+
+/// Places the texts: the page on standard output and the lines on standard error, or both texts on standard error if a
+/// capture goes to standard output.
+fn placed(
+    page: String,
+    lines: Option<String>,
+    stream: Option<Vec<u8>>,
+) -> Result<(Vec<u8>, Option<String>), Refusal>
+    ensures bytes { IfOk result (λ p. p.0.items ≡ option_map_or (λ capture. capture.items) stream (string_bytes page)) }
+    ensures beside { IfOk result (λ p. stream ≡ None → lines ≡ None → p.1 ≡ None) }
+    ensures refused { IfErr result (λ e. e ≡ refusal.Memory) }
+{
+    let Some(capture) = stream else {
+        return Ok((page.into_bytes(), lines));
+    };
+    match lines {
+        Some(mut text) => {
+            text.push_str(page.as_str())?;
+            Ok((capture, Some(text)))
+        }
+        None => Ok((capture, Some(page))),
     }
 }
 

@@ -2,7 +2,7 @@
 ghost use Rattle.std.specs.Prelude.{◌≡◌, ◌+◌, ◌<◌, ◌≤◌, ◌↔◌, ◌∷◌, Some, IfSome, IsTrue, MatchOption};
 ghost use Rattle.limits.specs.declared.profile.TheConstants.{MOST_PAIRS, PORTS};
 ghost use Rattle.forward_command.specs.Words.{IsDigit, IsSource, IsWireFile, PortFile, SourceFile, NoField, NoFirst, source_word, wire_file_word};
-ghost use Rattle.forward_command.specs.Streams.{names_output};
+ghost use Rattle.forward_command.specs.Streams.{names_input, names_output};
 
 use limits::{MOST_PAIRS, PORTS};
 use std::marker::Model;
@@ -103,6 +103,13 @@ pub(crate) fn names_output(file: &str) -> bool
     ensures { result ≡ names_output file.now }
 {
     file == "-" || file == "/dev/stdout"
+}
+
+/// Whether a capture's name denotes standard input: `-` or `/dev/stdin`.
+pub(crate) fn names_input(file: &str) -> bool
+    ensures { result ≡ names_input file.now }
+{
+    file == "-" || file == "/dev/stdin"
 }
 
 /// Splits a word into a digit less than `below`, the byte `mark`, and the rest. Returns the digit's value and the rest.

@@ -1,46 +1,58 @@
 //! Converts the input of the two commands.
 ghost use Rattle.std.specs.Prelude.{◌≡◌, ◌<◌, IfErr, IfOk, Ok};
 ghost use Rattle.std.specs.String.{string_bytes};
-ghost use Rattle.capture.specs.CaptureError.{Answers};
-ghost use Rattle.capture.specs.Reading.{capture_in as capture_of_bytes};
+ghost use Rattle.capture.specs.CaptureError.{AnswersAs};
+ghost use Rattle.capture.specs.Reading.{capture_with};
 ghost use Rattle.commands.specs.declared.refusal.Refusal.TheVariants as refusal;
 ghost use Rattle.wire_script.specs.ScriptError.{Fails};
 ghost use Rattle.refusals.specs.declared.errors.ScriptError.{ScriptError};
-ghost use Rattle.forward_command.specs.Meanings.{IsRefusedAs, Makes, Refuses, capture_meant, lines_meant, meant, wires_in};
+ghost use Rattle.forward_command.specs.Meanings.{IsRefusedAs, IsSkipped, Makes, Refuses, capture_meant, lines_meant, meant, wires_in};
 ghost use Rattle.forward_command.specs.Requests.{IsPlaced};
 ghost use Rattle.limits.specs.declared.profile.TheConstants.{MOST_PAIRS, PORTS};
 
 use crate::explaining::{explain_capture, explain_script};
 use crate::piped::flow_lines::pass_flows;
 use crate::piped::request::CaptureRequest;
-use capture::{Capture, CaptureError, capture_of, lines_at, read};
+use capture::{
+    Capture, CaptureError, ReadOptions, Skipped, capture_of, lines_at, read_with,
+};
 use commands::{Refusal, read_text};
 use std::alloc::Global;
 use std::io::Read;
 use wire_script::{Script, parse};
 
-/// Reads the input and converts it as the request asks. Appends the explanation of a fault to `why`.
+/// Reads the input and converts it as the request asks. Also returns how many records were left out. Appends the
+/// explanation of a fault to `why`.
 pub(crate) fn page_of<I: Read>(
     alloc: Global,
     request: CaptureRequest,
     input: &mut I,
     why: &mut String,
-) -> Result<Vec<u8>, Refusal>
+) -> Result<(Vec<u8>, Skipped), Refusal>
     requires { IsPlaced request }
-    ensures done { IfOk result (λ page. Makes (meant request) (I.remaining input.old) page.items) }
+    ensures done { IfOk result (λ p. Makes (meant request) (I.remaining input.old) p.0.items) }
     ensures refused { IfErr result (λ e. Refuses (meant request) (I.remaining input.old) e) }
 {
     let given = read_text(alloc, input)?;
     match request {
-        CaptureRequest::FromCapture { port, queue } => {
-            let text = lines_in(alloc, port, queue, given.as_slice(), why)?;
-            Ok(text.into_bytes())
+        CaptureRequest::FromCapture {
+            port,
+            queue,
+            reading,
+        } => {
+            let bytes = given.as_slice();
+            let (text, skipped) = lines_in(alloc, port, queue, reading, bytes, why)?;
+            Ok((text.into_bytes(), skipped))
         }
-        CaptureRequest::ToCapture { port } => capture_in(alloc, port, given, why),
+        CaptureRequest::ToCapture { port } => {
+            let bytes = capture_in(alloc, port, given, why)?;
+            Ok((bytes, Skipped::default()))
+        }
     }
 }
 
-/// Returns the frames of a capture as script lines, at this port, 0 or 1, and this queue, 0 to 7.
+/// Returns the frames of a capture, read with these options, as script lines, at this port, 0 or 1, and this queue, 0 to
+/// 7. Also returns how many records were left out.
 ///
 /// Returns the capture's first fault, whose explanation is appended to `why`, or its `Memory`, and `Memory` if the text
 /// cannot be allocated.
@@ -48,27 +60,33 @@ pub fn lines_in(
     alloc: Global,
     port: u8,
     queue: u8,
+    reading: ReadOptions,
     bytes: &[u8],
     why: &mut String,
-) -> Result<String, Refusal>
+) -> Result<(String, Skipped), Refusal>
     requires port { port < PORTS }
     requires queue { queue < MOST_PAIRS }
-    ensures done { IfOk result (λ text. lines_meant port queue bytes.now ≡ Ok (string_bytes text)) }
-    ensures refused { IfErr result (λ e. IsRefusedAs (lines_meant port queue bytes.now) e) }
+    ensures done { IfOk result (λ p. lines_meant port queue reading bytes.now ≡ Ok (string_bytes p.0)) }
+    ensures skipped { IfOk result (λ p. IsSkipped reading bytes.now p.1) }
+    ensures refused { IfErr result (λ e. IsRefusedAs (lines_meant port queue reading bytes.now) e) }
 {
-    let found = read_explained(alloc, bytes, why)?;
-    lines_at(alloc, port, queue, found.records()).map_err(|_| Refusal::Memory)
+    let (found, skipped) = read_explained(alloc, reading, bytes, why)?;
+    match lines_at(alloc, port, queue, found.records()) {
+        Ok(text) => Ok((text, skipped)),
+        Err(_) => Err(Refusal::Memory),
+    }
 }
 
-/// Reads a capture. Appends the explanation of a fault to `why`.
+/// Reads a capture with options. Appends the explanation of a fault to `why`.
 fn read_explained<'a>(
     alloc: Global,
+    reading: ReadOptions,
     bytes: &'a [u8],
     why: &mut String,
-) -> Result<Capture<'a>, CaptureError>
-    ensures { Answers result (capture_of_bytes bytes.now) }
+) -> Result<(Capture<'a>, Skipped), CaptureError>
+    ensures { AnswersAs (λ p. (p.0, p.1)) result (capture_with reading bytes.now) }
 {
-    let found = read(alloc, bytes);
+    let found = read_with(alloc, bytes, reading);
     if let Err(fault) = found {
         let _ = explain_capture(alloc, why, bytes, fault);
     }

@@ -1,42 +1,20 @@
-use Rattle.std.proofs.Common.{◌∙◌}
-use Rattle.std.proofs.lemmas.Result.{err_from_is_err_and}
-use Rattle.command_line.proofs.CommandLine.{free, misuse_fails, misuse_not_taken, simple}
-use Rattle.command_line.proofs.Sayings.{found, taken}
+-- A completed error has the kind of the error, or memory was missing for it.
+use Rattle.std.proofs.Common.{◌∙◌, ⊎_elim, inl, subst, sym}
+use Rattle.std.specs.Prelude.{◌≡◌, ◌⊎◌}
+use Rattle.clap.specs.declared.error.kind.ErrorKind.{ErrorKind}
+use Rattle.clap.specs.declared.error.kind.ErrorKind.TheVariants.{OutOfMemory}
+use Rattle.command_line.specs.CommandLine.{IsMistake}
 use Rattle.command_line.proofs.command.asked_of.Goals as goal
 
--- ---- what the words say
+still-memory : (told kind : ErrorKind) → (told ≡ kind) ⊎ (told ≡ OutOfMemory) → kind ≡ OutOfMemory → told ≡ OutOfMemory
+still-memory told kind is memory = ⊎_elim (λ same. same ∙ memory) (λ lost. lost) is
 
-pub returns-in_err-matches-clause-said : goal.returns-in_err-matches-clause-said
-returns-in_err-matches-clause-said c saying says =
-    let p = err_from_is_err_and c.from_residual-in_err-matches.result c.from_residual-in_err-matches.ensures.1 in
-    rw (p.1, p.2) (c.in_err-matches.ensures.passes (taken _ _ saying c.in_ok-program.ensures says))
+still-mistake : (told kind : ErrorKind) → (told ≡ kind) ⊎ (told ≡ OutOfMemory) → (kind ≡ OutOfMemory) ⊎ IsMistake kind → (told ≡ OutOfMemory) ⊎ IsMistake told
+still-mistake told kind is wrong =
+    ⊎_elim (λ same. subst (λ (k : ErrorKind). (k ≡ OutOfMemory) ⊎ IsMistake k) (sym same) wrong) (λ lost. inl lost) is
 
-pub returns-in-Some-clause-said : goal.returns-in-Some-clause-said
-returns-in-Some-clause-said c saying says =
-    let values = found _ _ saying c.in_ok-program.ensures says in
-    let rows = (c.in_ok-matches.ensures.ok.2 (simple _ c.in_ok-program.ensures)).1 ∙ values.1 in
-    c.in-Some.ensures.said values.0 saying rows values.2
+pub returns-in-Err-clause-said : goal.returns-in-Err-clause-said
+returns-in-Err-clause-said c saying says = still-memory _ _ c.completed.ensures (c.in-Err.ensures.said saying says)
 
-pub returns-clause-said : goal.returns-clause-said
-returns-clause-said c saying says =
-    let values = found _ _ saying c.in_ok-program.ensures says in
-    let rows = (c.in_ok-matches.ensures.ok.2 (simple _ c.in_ok-program.ensures)).1 ∙ values.1 in
-    absurd (c.in-None.ensures.said values.0 saying rows values.2)
-
--- ---- words that are a mistake
-
-pub returns-in_err-matches-clause-misuse : goal.returns-in_err-matches-clause-misuse
-returns-in_err-matches-clause-misuse c misuse =
-    let p = err_from_is_err_and c.from_residual-in_err-matches.result c.from_residual-in_err-matches.ensures.1 in
-    let kinds = c.in_err-matches.ensures.kinds (free _ c.in_ok-program.ensures) in
-    rw (p.1, p.2) (misuse_fails _ _ _ c.in_ok-program.ensures misuse kinds)
-
-pub returns-in-Some-clause-misuse : goal.returns-in-Some-clause-misuse
-returns-in-Some-clause-misuse c misuse =
-    let kinds = c.in_ok-matches.ensures.kinds (free _ c.in_ok-program.ensures) in
-    absurd (misuse_not_taken _ _ c.in_ok-program.ensures misuse kinds)
-
-pub returns-clause-misuse : goal.returns-clause-misuse
-returns-clause-misuse c misuse =
-    let kinds = c.in_ok-matches.ensures.kinds (free _ c.in_ok-program.ensures) in
-    absurd (misuse_not_taken _ _ c.in_ok-program.ensures misuse kinds)
+pub returns-in-Err-clause-misuse : goal.returns-in-Err-clause-misuse
+returns-in-Err-clause-misuse c misuse = still-mistake _ _ c.completed.ensures (c.in-Err.ensures.misuse misuse)

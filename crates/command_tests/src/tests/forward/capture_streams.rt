@@ -2,8 +2,9 @@
 
 use crate::tests::failing::{each_beginning, each_cut};
 use crate::tests::forward::captured::{AT_0, FIVES, HEADER, joined};
-use crate::tests::streams::Narrow;
+use crate::tests::streams::{Narrow, Screen};
 use crate::tests::wanted::{holds, same};
+use capture::ReadOptions;
 use forward_command::piped::{CaptureRequest, perform};
 use std::alloc::Global;
 use std::process::Abort;
@@ -54,6 +55,7 @@ fn capture_written<A: Abort>(rt: &A, alloc: Global) -> Vec<u8> {
         request,
         &mut SCRIPT.as_bytes(),
         &mut output,
+        &mut Screen::new(alloc, false),
         &mut why,
     ) {
         Ok(()) => same(rt, output.taken.len(), 54),
@@ -68,9 +70,22 @@ fn capture_written<A: Abort>(rt: &A, alloc: Global) -> Vec<u8> {
 /// `from-capture` converts that capture back to the line, or writes nothing.
 fn line_is_written<A: Abort>(rt: &A, alloc: Global, mut capture: &[u8]) {
     let mut output = Narrow::new(alloc, 400);
-    let request = CaptureRequest::FromCapture { port: 1, queue: 0 };
+    let reading = ReadOptions::default();
+    let request = CaptureRequest::FromCapture {
+        port: 1,
+        queue: 0,
+        reading,
+    };
+    let mut screen = Screen::new(alloc, false);
     let mut why = String::new(alloc);
-    match perform(alloc, request, &mut capture, &mut output, &mut why) {
+    match perform(
+        alloc,
+        request,
+        &mut capture,
+        &mut output,
+        &mut screen,
+        &mut why,
+    ) {
         Ok(()) => same(rt, output.taken.as_slice(), SCRIPT.as_bytes()),
         Err(refusal) => {
             holds(rt, [83, 84, 91, 97].contains(&refusal.number()));

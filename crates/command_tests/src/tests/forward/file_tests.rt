@@ -3,16 +3,16 @@
 use crate::tests::forward::captured::{
     AT_0, AT_1, AT_2, BYTES, Content, FIVES, HEADER, LETTERS, RAW, SHORT, joined,
 };
-use crate::tests::runs::{Host, outcome_of};
+use crate::tests::runs::{Host, outcome_of, typed_by};
 use crate::tests::streams::Broken;
-use crate::tests::told::{Page, comes_to, each_has_page};
+use crate::tests::told::{Page, comes_to, each_has_page, is_told};
 use crate::tests::wanted::{holds, same};
 use std::alloc::Global;
 use std::fs;
 use std::process::Abort;
 use std::rt::Files;
 
-/// The files before a run whose input cannot be read, its output and faults, and the files after it.
+/// The files before a run whose input is a terminal that cannot be read, its output and faults, and the files after it.
 struct Row {
     files: &'static [(&'static str, Content)],
     words: &'static [&'static str],
@@ -22,7 +22,7 @@ struct Row {
 }
 
 /// Writes these files to the directory of the test.
-fn put<R: Abort + Files>(rt: &R, alloc: Global, files: &[(&str, Content)]) {
+pub fn put<R: Abort + Files>(rt: &R, alloc: Global, files: &[(&str, Content)]) {
     for (name, content) in files {
         let bytes = joined(alloc, content).expect(rt, "memory");
         fs::write(rt, name, bytes.as_slice()).expect(rt, "the file");
@@ -41,8 +41,9 @@ fn have<R: Abort + Files + AllocGlobal>(rt: &R, alloc: Global, files: &[(&str, C
 fn each_comes_to<R: Host + AllocGlobal>(rt: &R, alloc: Global, rows: &[Row]) {
     for row in rows {
         put(rt, alloc, row.files);
-        let wanted = (row.output.as_bytes(), row.faults);
-        comes_to(rt, alloc, row.words, &mut Broken { left: b"" }, wanted);
+        let wanted = (row.output.as_bytes(), row.faults, "");
+        let told = typed_by(rt, alloc, row.words, &mut Broken { left: b"" }).expect(rt, "a run");
+        is_told(rt, row.words, &told, wanted);
         have(rt, alloc, row.kept);
     }
 }
@@ -312,7 +313,16 @@ fn a_capture_has_standard_output_for_itself(rt: HostRuntime) {
 
 const SOURCE: &str = "--capture takes PORT:QUEUE=FILE";
 
+/// The error for options of captures without a capture.
+const NO_CAPTURE: &str = "--skip and --limit need --capture";
+
 const NO_SOURCES: &[(&[&str], &str)] = &[
+    (&["forward", "--skip"], NO_CAPTURE),
+    (&["forward", "--limit", "1"], NO_CAPTURE),
+    (
+        &["forward", "--skip", "--capture", "2:0=x.pcap"],
+        SOURCE,
+    ),
     (&["forward", "--capture", "2:0=x.pcap"], SOURCE),
     (&["forward", "--capture", "0:8=x.pcap"], SOURCE),
     (&["forward", "--capture", "0:0="], SOURCE),

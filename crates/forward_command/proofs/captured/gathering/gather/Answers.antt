@@ -12,8 +12,9 @@ loop-source-preserved g c =
     let more = take_more sources k source (omega arith) ∙ ap (λ (s : _). take k sources ++ s ∷ []) (sym c.source-item.is) in
     let one = c.in_default.ensures.added in
     record {
-      gathered = subst (λ (ss : _). Gathers ss [] c.add_file-added.new.frames.items) (sym more)
-          (gathers-more (take k sources) source [] c.loop-source.frames.items _ one.0 c.loop-source.invariant.gathered one.1);
+      gathered = subst (λ (ss : _). Gathers c.args.reading ss [] c.add_file-added.new.frames.items c.add_file-added.new.skipped.items) (sym more)
+          (subst (λ (ks : _). Gathers c.args.reading (take k sources ++ source ∷ []) [] c.add_file-added.new.frames.items ks) (sym one.counts)
+          (gathers-more c.args.reading (take k sources) source [] c.loop-source.frames.items _ c.loop-source.skipped.items one.left_out one.bytes c.loop-source.invariant.gathered one.frames));
       place = search rules;
       room = search rules;
     }

@@ -5,7 +5,7 @@ use Rattle.forward_command.proofs.captured.gathering.gather.Given as goal
 
 abbrev pub invariant-loop-source : goal.invariant-loop-source
 invariant-loop-source g l = record {
-  gathered : Gathers (take l.source-index l.sources) [] l.frames.items;
+  gathered : Gathers l.reading (take l.source-index l.sources) [] l.frames.items l.skipped.items;
   place : l.at ≡ l.source-index;
   room : length l.frames.items ≤ MOST_SCRIPT_FRAMES;
 }
