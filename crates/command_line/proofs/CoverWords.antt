@@ -1,11 +1,17 @@
 -- What clap makes of `schedules --cover` and its options.
-use Rattle.std.proofs.Common.{◌≡◌, refl, arith, Bool, true, false, List, [], ◌∷◌, codes, Some, None}
-use Rattle.std.specs.Prelude.{is_some}
+use Rattle.std.proofs.Common.{◌≡◌, ◌∙◌, refl, ap, sym, subst, arith, Bool, true, false, List, [], ◌∷◌, codes, Some, None}
+use Rattle.std.specs.Prelude.{Option}
+use Rattle.clap.specs.Values.{bool_text}
+use Rattle.commands.specs.Replay.{is_page}
+use Rattle.commands.specs.declared.replay.Pictures.{Pictures}
+use Rattle.commands.specs.declared.replay.Pictures.TheVariants.{Never}
+use Rattle.commands.specs.declared.replay.Shown.{Shown}
 use Rattle.clap.specs.Words.{App, Row, Text, subcommand_of, takes}
 use Rattle.cover_command.specs.declared.request.CoverRequest.{CoverRequest}
+use Rattle.schedule_command.specs.Lists.{shows_page}
 use Rattle.command_line.specs.CommandLine.{IsProgram}
 use Rattle.command_line.specs.OptionWords.{is_head}
-use Rattle.command_line.specs.ScheduleWords.{HasCover, SaysCover, expects_json, expects_registers, is_said}
+use Rattle.command_line.specs.ScheduleWords.{HasCover, IsExpected, IsExpectedBy, IsUndrawn, SaysCover, expects_json, expects_registers, says_expect, is_said}
 use Rattle.command_line.proofs.OptionRows.{both-false}
 use Rattle.command_line.proofs.Options.{Given, HasValue, given_said, given_value, id_of, stands}
 use Rattle.command_line.proofs.Options.Given.{flag, number}
@@ -25,9 +31,10 @@ options request explained =
     ∷ flag (codes "recommended") false
     ∷ flag (codes "cover") true
     ∷ flag (codes "head") (is_head request.completion)
-    ∷ flag (codes "expect") (is_some request.expect)
+    ∷ flag (codes "expect") (says_expect request.expect)
     ∷ flag (codes "json") (expects_json request.expect)
     ∷ flag (codes "registers") (expects_registers request.expect)
+    ∷ flag (codes "page") (shows_page request.expect)
     ∷ flag (codes "device-only-real") request.device_only
     ∷ flag (codes "explain") explained
     ∷ []
@@ -36,10 +43,19 @@ has_options : (request : CoverRequest) (explained : Bool) → HasOptions (codes 
 has_options request explained = record { command = is_command; among = refl; distinct = refl; valid = λ h. refl }
 
 are_lawful : (request : CoverRequest) (explained : Bool) → AreLawful (options request explained)
-are_lawful request explained = (tt, (tt, (tt, (tt, (tt, (tt, (tt, (tt, (tt, (tt, (tt, (tt, (tt, (tt, (tt, tt)))))))))))))))
+are_lawful request explained = (tt, (tt, (tt, (tt, (tt, (tt, (tt, (tt, (tt, (tt, (tt, (tt, (tt, (tt, (tt, (tt, tt))))))))))))))))
 
 words_are : (words : List Text) (request : CoverRequest) (says : SaysCover words request) → words ≡ codes "schedules" ∷ all_words (options request says.explained)
 words_are words request says = says.words_are
+
+-- what has no picture is no page
+no_page-undrawn : (expect : Option Shown) → IsUndrawn expect → shows_page expect ≡ false
+no_page-undrawn None undrawn = refl
+no_page-undrawn (Some form) undrawn = ap is_page undrawn
+
+expected-undrawn : (expect : Option Shown) → IsUndrawn expect → IsExpected expect
+expected-undrawn None undrawn = tt
+expected-undrawn (Some form) undrawn = subst (λ (p : Pictures). IsExpectedBy p form.json form.registers) (sym undrawn) tt
 
 -- each has its value, and stands or doesn't
 abbrev pub IsRead : List Row → Given → Type 0
@@ -69,9 +85,11 @@ cover_found app words request program says =
           stands = (found.2 10 none (omega arith)).0;
           json = (found.2 11 none (omega arith)).0;
           registers = (found.2 12 none (omega arith)).0;
-          undrawn = says.undrawn;
+          page = (found.2 13 none (omega arith)).0;
+          expected = expected-undrawn request.expect says.undrawn;
         };
-        device_only = (found.2 13 none (omega arith)).0;
+        no_page = (found.2 13 none (omega arith)).0 ∙ ap (λ (b : Bool). Some (bool_text b)) (no_page-undrawn request.expect says.undrawn);
+        device_only = (found.2 14 none (omega arith)).0;
         undrawn = both-false _ _ (found.2 0 none (omega arith)).1 (both-false _ _ (found.2 1 none (omega arith)).1
             (both-false _ _ (found.2 2 none (omega arith)).1 (both-false _ _ (found.2 3 none (omega arith)).1
             (both-false _ _ (found.2 4 none (omega arith)).1 (both-false _ _ (found.2 5 none (omega arith)).1

@@ -1,12 +1,13 @@
 -- What clap makes of `schedules --recommended` and its options, and of any words that ask for lists that are drawn.
 use Rattle.std.proofs.Common.{◌≡◌, ◌∙◌, ap, ap₂, refl, arith, inl, inr, true, false, List, [], ◌∷◌, ◌++◌, codes, Some, None}
-use Rattle.std.specs.Prelude.{is_some, not}
+use Rattle.std.specs.Prelude.{not}
 use Rattle.std.specs.Fmt.{digits}
 use Rattle.clap.specs.Words.{App, Row, Text, subcommand_of, takes}
 use Rattle.schedule_command.specs.declared.request.ScheduleRequest.{ScheduleRequest}
+use Rattle.schedule_command.specs.Lists.{shows_page}
 use Rattle.command_line.specs.CommandLine.{IsProgram}
 use Rattle.command_line.specs.OptionWords.{is_head}
-use Rattle.command_line.specs.ScheduleWords.{HasLists, HasRecommended, SaysLists, SaysRecommended, expects_json, expects_registers, last_words}
+use Rattle.command_line.specs.ScheduleWords.{HasLists, HasRecommended, SaysLists, SaysRecommended, expects_json, expects_registers, says_expect, last_words}
 use Rattle.command_line.proofs.CoverWords.{IsRead, each_read}
 use Rattle.command_line.proofs.OptionRows.{both-false}
 use Rattle.command_line.proofs.Options.{Given, words_of}
@@ -27,9 +28,10 @@ options words request says =
     ∷ number (codes "pairs") 4294967295 (codes "1" ∷ []) (said_of _ _ _ _ _ says.says_pairs)
     ∷ flag (codes "off") (not request.plan.enabled)
     ∷ flag (codes "head") (is_head request.plan.completion)
-    ∷ flag (codes "expect") (is_some request.expect)
+    ∷ flag (codes "expect") (says_expect request.expect)
     ∷ flag (codes "json") (expects_json request.expect)
     ∷ flag (codes "registers") (expects_registers request.expect)
+    ∷ flag (codes "page") (shows_page request.expect)
     ∷ flag (codes "device-only-real") request.plan.device_only
     ∷ flag (codes "explain") says.explained
     ∷ []
@@ -52,7 +54,7 @@ saying words request says = record {
 are_lawful : (words : List Text) (request : ScheduleRequest) (says : SaysRecommended words request) → AreLawful (options words request says)
 are_lawful words request says =
     let are = saying words request says in
-    (tt, (tt, (tt, (tt, (tt, (tt, (are.ring.lawful, (are.pairs.lawful, (tt, (tt, (tt, (tt, (tt, (tt, (tt, tt)))))))))))))))
+    (tt, (tt, (tt, (tt, (tt, (tt, (are.ring.lawful, (are.pairs.lawful, (tt, (tt, (tt, (tt, (tt, (tt, (tt, (tt, tt))))))))))))))))
 
 words_are : (words : List Text) (request : ScheduleRequest) (says : SaysRecommended words request) → words ≡ codes "schedules" ∷ all_words (options words request says)
 words_are words request says =
@@ -89,13 +91,14 @@ recommended_found app words request program says =
           pairs = record { value = (found.2 7 none (omega arith)).0 ∙ are.pairs.value; fits = are.pairs.fits };
           off = (found.2 8 none (omega arith)).0;
           head = (found.2 9 none (omega arith)).0;
-          device_only = (found.2 13 none (omega arith)).0;
+          device_only = (found.2 14 none (omega arith)).0;
         };
         expect = record {
           stands = (found.2 10 none (omega arith)).0;
           json = (found.2 11 none (omega arith)).0;
           registers = (found.2 12 none (omega arith)).0;
-          undrawn = says.undrawn;
+          page = (found.2 13 none (omega arith)).0;
+          expected = says.expected;
         };
         uncounted = both-false _ _ (found.2 0 none (omega arith)).1 (both-false _ _ (found.2 1 none (omega arith)).1
             (both-false _ _ (found.2 2 none (omega arith)).1 (found.2 3 none (omega arith)).1));

@@ -7,11 +7,13 @@ use Rattle.clap.specs.Words.{App, Row, Text, built, subcommand_of, takes}
 use Rattle.clap.proofs.OnLiterals.{clap_on_literals}
 use Rattle.ring_model.specs.declared.states.Completion.{Completion}
 use Rattle.commands.specs.declared.replay.Pictures.{Pictures}
-use Rattle.commands.specs.declared.replay.Pictures.TheVariants.{Never, Each, Last}
+use Rattle.commands.specs.declared.replay.Pictures.TheVariants.{Never, Each, Last, States, Page}
 use Rattle.commands.specs.declared.replay.QueuePlan.{QueuePlan}
+use Rattle.commands.specs.Replay.{is_page}
 use Rattle.commands.specs.declared.replay.Shown.{Shown}
 use Rattle.command_line.specs.CommandLine.{Choices, HasReplay, IsProgram, SaysReplay, program_app}
 use Rattle.command_line.specs.OptionWords.{is_head, picture_value, picture_words}
+use Rattle.command_line.specs.ShownWords.{says_json, says_registers}
 use Rattle.command_line.proofs.Options.{Given, IsLawful, Shown as ValueShown, optional_said, words_of}
 use Rattle.command_line.proofs.Options.Given.{flag, number, optional}
 use Rattle.command_line.proofs.Options.Shown.{alone, with_word}
@@ -26,21 +28,29 @@ abbrev picture_said : Pictures → Option ValueShown
 picture_said Never = None
 picture_said Each = Some alone
 picture_said Last = Some (with_word (codes "last"))
+picture_said States = None
+picture_said Page = None
 
 picture_lawful : (pictures : Pictures) → IsLawful (optional (codes "picture") (codes "each") (picture_said pictures))
 picture_lawful Never = tt
 picture_lawful Each = tt
 picture_lawful Last = record { dashes = refl; long = refl }
+picture_lawful States = tt
+picture_lawful Page = tt
 
 picture_words_are : (pictures : Pictures) → picture_words pictures ≡ words_of (optional (codes "picture") (codes "each") (picture_said pictures))
 picture_words_are Never = refl
 picture_words_are Each = refl
 picture_words_are Last = refl
+picture_words_are States = refl
+picture_words_are Page = refl
 
 picture_value_is : (pictures : Pictures) → optional_said (codes "each") (picture_said pictures) ≡ picture_value pictures
 picture_value_is Never = refl
 picture_value_is Each = refl
 picture_value_is Last = refl
+picture_value_is States = refl
+picture_value_is Page = refl
 
 -- ---- its options, with what the words say
 
@@ -57,9 +67,10 @@ options words plan says =
     ∷ flag (codes "off") (not plan.enabled)
     ∷ flag (codes "head") (is_head plan.completion)
     ∷ flag (codes "lists") plan.lists
-    ∷ flag (codes "json") plan.shown.json
-    ∷ flag (codes "registers") plan.shown.registers
+    ∷ flag (codes "json") (says_json plan.shown)
+    ∷ flag (codes "registers") (says_registers plan.shown)
     ∷ optional (codes "picture") (codes "each") (picture_said plan.shown.pictures)
+    ∷ flag (codes "page") (is_page plan.shown.pictures)
     ∷ flag (codes "explain") says.explained
     ∷ []
 
@@ -81,18 +92,16 @@ unfolding digits
 is_pairs words plan says = is_said (codes "pairs") 4294967295 1 (codes "1") says.pairs plan.pairs (omega arith) (omega arith) refl says.says_pairs
 
 are_lawful : (words : List Text) (plan : QueuePlan) (says : SaysReplay words plan) → AreLawful (options words plan says)
-are_lawful words plan says = ((is_ring words plan says).lawful, ((is_pairs words plan says).lawful, (tt, (tt, (tt, (tt, (tt, (picture_lawful plan.shown.pictures, (tt, tt)))))))))
+are_lawful words plan says = ((is_ring words plan says).lawful, ((is_pairs words plan says).lawful, (tt, (tt, (tt, (tt, (tt, (picture_lawful plan.shown.pictures, (tt, (tt, tt))))))))))
 
 words_are : (words : List Text) (plan : QueuePlan) (says : SaysReplay words plan) → words ≡ codes "replay" ∷ all_words (options words plan says)
 words_are words plan says =
-    let flags : List Text = words_of (flag (codes "off") (not plan.enabled))
-    ++ (words_of (flag (codes "head") (is_head plan.completion)) ++ (words_of (flag (codes "lists") plan.lists)
-    ++ (words_of (flag (codes "json") plan.shown.json) ++ (words_of (flag (codes "registers") plan.shown.registers)
-    ++ (picture_words plan.shown.pictures ++ words_of (flag (codes "explain") says.explained)))))) in
+    let last : List Text = words_of (flag (codes "page") (is_page plan.shown.pictures)) ++ words_of (flag (codes "explain") says.explained) in
     let before : List Text → List Text = λ (drawn : List Text). words_of (flag (codes "off") (not plan.enabled))
     ++ (words_of (flag (codes "head") (is_head plan.completion)) ++ (words_of (flag (codes "lists") plan.lists)
-    ++ (words_of (flag (codes "json") plan.shown.json) ++ (words_of (flag (codes "registers") plan.shown.registers)
-    ++ (drawn ++ words_of (flag (codes "explain") says.explained)))))) in
+    ++ (words_of (flag (codes "json") (says_json plan.shown)) ++ (words_of (flag (codes "registers") (says_registers plan.shown))
+    ++ (drawn ++ last))))) in
+    let flags : List Text = before (picture_words plan.shown.pictures) in
     says.words_are
     ∙ (ap₂ (λ (a b : List Text). codes "replay" ∷ (a ++ (b ++ flags))) (is_ring words plan says).words_are (is_pairs words plan says).words_are
     ∙ ap (λ (drawn : List Text). codes "replay" ∷ (words_of (ring_given words plan says) ++ (words_of (pairs_given words plan says) ++ before drawn))) (picture_words_are plan.shown.pictures))
@@ -118,10 +127,13 @@ replay_found app words plan program says =
         off = found.2 2 none (omega arith);
         head = found.2 3 none (omega arith);
         lists = found.2 4 none (omega arith);
-        json = found.2 5 none (omega arith);
-        registers = found.2 6 none (omega arith);
-        picture = found.2 7 none (omega arith) ∙ picture_value_is plan.shown.pictures;
-        all_lines = says.all_lines;
+        shown = record {
+          json = found.2 5 none (omega arith);
+          registers = found.2 6 none (omega arith);
+          picture = found.2 7 none (omega arith) ∙ picture_value_is plan.shown.pictures;
+          page = found.2 8 none (omega arith);
+          sayable = says.sayable;
+        };
       },
     )
 
@@ -129,10 +141,6 @@ replay_found app words plan program says =
 pub begins_as : (b read : Bool) → read ≡ not b → not read ≡ b
 begins_as true read is = ap not is
 begins_as false read is = ap not is
-
-pub shown_is : (shown : Shown) (j r : Bool) (p : Pictures) → j ≡ shown.json → r ≡ shown.registers → p ≡ shown.pictures
-    → ◌≡◌ {A = Shown} (record { json = j; registers = r; pictures = p }) shown
-shown_is shown j r p json_is registers_is pictures_are = rw (json_is, registers_is, pictures_are) refl
 
 pub plan_is : (plan : QueuePlan) (n k : ℕ) (b : Bool) (c : Completion) (l : Bool) (s : Shown) → k ≡ plan.pairs → n ≡ plan.ring → b ≡ plan.enabled → c ≡ plan.completion → l ≡ plan.lists
     → s ≡ plan.shown → ◌≡◌ {A = QueuePlan} (record { pairs = k; ring = n; enabled = b; completion = c; lists = l; shown = s }) plan

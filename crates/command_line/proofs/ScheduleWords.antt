@@ -1,14 +1,15 @@
 -- What clap makes of `schedules` and its options.
 use Rattle.std.proofs.Common.{◌≡◌, ◌∙◌, ap, ap₂, refl, arith, true, false, List, [], ◌∷◌, ◌++◌, codes, slice_index_or, Some}
-use Rattle.std.specs.Prelude.{decimal, is_some, not}
+use Rattle.std.specs.Prelude.{decimal, not}
 use Rattle.std.specs.Fmt.{digits}
 use Rattle.clap.specs.Simple.{Shape, new_shape}
 use Rattle.clap.specs.Words.{App, Row, Text, built, subcommand_of, takes}
 use Rattle.clap.proofs.OnLiterals.{clap_on_literals}
 use Rattle.schedule_command.specs.declared.request.ScheduleRequest.{ScheduleRequest}
+use Rattle.schedule_command.specs.Lists.{shows_page}
 use Rattle.command_line.specs.CommandLine.{Choices, IsProgram, program_app}
 use Rattle.command_line.specs.OptionWords.{is_head}
-use Rattle.command_line.specs.ScheduleWords.{HasSchedules, SaysSchedules, expects_json, expects_registers, last_words}
+use Rattle.command_line.specs.ScheduleWords.{HasSchedules, SaysSchedules, expects_json, expects_registers, says_expect, last_words}
 use Rattle.command_line.proofs.CommandLine.{IsNumber, is_number}
 use Rattle.command_line.proofs.Options.{Given, words_of}
 use Rattle.command_line.proofs.Options.Given.{flag, number}
@@ -32,9 +33,10 @@ options words request says =
     ∷ flag (codes "off") (not request.plan.enabled)
     ∷ flag (codes "head") (is_head request.plan.completion)
     ∷ number (codes "refused") 100 (codes "0" ∷ []) (said_of _ _ _ _ _ says.says_refused)
-    ∷ flag (codes "expect") (is_some request.expect)
+    ∷ flag (codes "expect") (says_expect request.expect)
     ∷ flag (codes "json") (expects_json request.expect)
     ∷ flag (codes "registers") (expects_registers request.expect)
+    ∷ flag (codes "page") (shows_page request.expect)
     ∷ flag (codes "device-only-real") request.plan.device_only
     ∷ flag (codes "explain") says.explained
     ∷ []
@@ -69,7 +71,7 @@ saying words request says = record {
 are_lawful : (words : List Text) (request : ScheduleRequest) (says : SaysSchedules words request) → AreLawful (options words request says)
 are_lawful words request says =
     let are = saying words request says in
-    (tt, (tt, (are.seed, (are.moves, (are.count.lawful, (are.ring.lawful, (are.pairs.lawful, (tt, (tt, (are.refused.lawful, (tt, (tt, (tt, (tt, (tt, tt)))))))))))))))
+    (tt, (tt, (are.seed, (are.moves, (are.count.lawful, (are.ring.lawful, (are.pairs.lawful, (tt, (tt, (are.refused.lawful, (tt, (tt, (tt, (tt, (tt, (tt, tt))))))))))))))))
 
 words_are : (words : List Text) (request : ScheduleRequest) (says : SaysSchedules words request) → words ≡ codes "schedules" ∷ all_words (options words request says)
 words_are words request says =
@@ -110,14 +112,15 @@ schedules_found app words request program says =
           pairs = record { value = found.2 6 none (omega arith) ∙ are.pairs.value; fits = are.pairs.fits };
           off = found.2 7 none (omega arith);
           head = found.2 8 none (omega arith);
-          device_only = found.2 13 none (omega arith);
+          device_only = found.2 14 none (omega arith);
         };
         refused = record { value = found.2 9 none (omega arith) ∙ are.refused.value; fits = are.refused.fits };
         expect = record {
           stands = found.2 10 none (omega arith);
           json = found.2 11 none (omega arith);
           registers = found.2 12 none (omega arith);
-          undrawn = says.undrawn;
+          page = found.2 13 none (omega arith);
+          expected = says.expected;
         };
       },
     )

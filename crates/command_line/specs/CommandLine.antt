@@ -16,6 +16,8 @@ use Rattle.forward_command.specs.Requests.{IsPlaced}
 use Rattle.forward_command.specs.declared.piped.request.CaptureRequest.{CaptureRequest}
 use Rattle.command_line.specs.OptionWords.{HasFlag, HasNumber, SaysNumber, draws_any, explain_rule, explain_words, flag_rule, flag_words, is_head, number_rule, optional_rule, picture_value, picture_words, queue_rules, with_rules}
 use Rattle.command_line.specs.ScheduleWords.{schedules_app}
+use Rattle.command_line.specs.ShownWords.{HasShown, IsSayable, says_json, says_registers}
+use Rattle.commands.specs.Replay.{is_page}
 use Rattle.schedule_command.specs.declared.request.ScheduleRequest.{ScheduleRequest}
 use Rattle.cover_command.specs.declared.request.CoverRequest.{CoverRequest}
 use Rattle.command_line.specs.FileWords.{AreFiles, FileOptions, file_rule, words_of_files}
@@ -51,7 +53,7 @@ decode_app rings formats = with_rules (codes "decode") (choice_rule (codes "ring
 -- the command `replay`
 abbrev pub replay_app : App
 replay_app =
-    with_rules (codes "replay") (queue_rules ++ flag_rule (codes "lists") ∷ flag_rule (codes "json") ∷ flag_rule (codes "registers") ∷ optional_rule (codes "picture") (codes "each") ∷ explain_rule ∷ [])
+    with_rules (codes "replay") (queue_rules ++ flag_rule (codes "lists") ∷ flag_rule (codes "json") ∷ flag_rule (codes "registers") ∷ optional_rule (codes "picture") (codes "each") ∷ flag_rule (codes "page") ∷ explain_rule ∷ [])
 
 -- the command `forward`: its queues and buffers, its workers, its behaviour on full rings, its reports, its output, and
 -- its files
@@ -108,7 +110,8 @@ pub record SaysDecode (words : List Text) (form : Form) (digits : Text) : Type 0
 
 -- The words are `replay` and its options in this order: `--off` if the queues begin disabled, `--head` if they report by a
 -- head word, `--lists` if each list has new queues, `--json` if objects are printed, `--registers` if registers are shown,
--- and `--picture` or `--picture=last` if queues are drawn, which excludes `--json`; and `--explain` if a refusal is explained.
+-- and `--picture` or `--picture=last` if queues are drawn, which excludes `--json`; `--page` if the output is a page, which
+-- excludes the three before it; and `--explain` if a refusal is explained.
 pub record SaysReplay (words : List Text) (plan : QueuePlan) : Type 0 where
   pub ring : List Text
   pub pairs : List Text
@@ -119,9 +122,10 @@ pub record SaysReplay (words : List Text) (plan : QueuePlan) : Type 0 where
       ++ (flag_words (codes "--off") (not plan.enabled)
       ++ (flag_words (codes "--head") (is_head plan.completion)
       ++ (flag_words (codes "--lists") plan.lists
-      ++ (flag_words (codes "--json") plan.shown.json
-      ++ (flag_words (codes "--registers") plan.shown.registers ++ (picture_words plan.shown.pictures ++ explain_words explained))))))))
-  pub all_lines : (plan.shown.json && draws_any plan.shown.pictures) ≡ false
+      ++ (flag_words (codes "--json") (says_json plan.shown)
+      ++ (flag_words (codes "--registers") (says_registers plan.shown)
+      ++ (picture_words plan.shown.pictures ++ (flag_words (codes "--page") (is_page plan.shown.pictures) ++ explain_words explained)))))))))
+  pub sayable : IsSayable plan.shown
 
 -- the words are `forward` and its options in this order: `--drop` if frames are dropped, `--no-retry` if packets are,
 -- `--head` if the transmit queues report by a head word, `--quiet` if no wire is printed, `--json` if the counts are
@@ -169,10 +173,7 @@ pub record HasReplay (rows : List Row) (plan : QueuePlan) : Type 0 where
   pub off : HasFlag rows (codes "off") (not plan.enabled)
   pub head : HasFlag rows (codes "head") (is_head plan.completion)
   pub lists : HasFlag rows (codes "lists") plan.lists
-  pub json : HasFlag rows (codes "json") plan.shown.json
-  pub registers : HasFlag rows (codes "registers") plan.shown.registers
-  pub picture : first_of (codes "picture") rows ≡ picture_value plan.shown.pictures
-  pub all_lines : (plan.shown.json && draws_any plan.shown.pictures) ≡ false
+  pub shown : HasShown rows plan.shown
 
 pub record HasForward (rows : List Row) (config : Config) : Type 0 where
   pub pairs : HasNumber rows (codes "pairs") config.pairs

@@ -1,5 +1,6 @@
 pub mod CaptureWords
 pub mod OptionWords
+pub mod ShownWords
 pub mod ScheduleWords
 pub mod ReadingWords
 pub mod FileWords

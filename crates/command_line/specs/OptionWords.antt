@@ -7,7 +7,7 @@ use Rattle.clap.specs.declared.builder.value_parser.ValueParser.TheVariants.{Sig
 use Rattle.ring_model.specs.declared.states.Completion.{Completion}
 use Rattle.ring_model.specs.declared.states.Completion.TheVariants.{Head, Status}
 use Rattle.commands.specs.declared.replay.Pictures.{Pictures}
-use Rattle.commands.specs.declared.replay.Pictures.TheVariants.{Never, Each, Last}
+use Rattle.commands.specs.declared.replay.Pictures.TheVariants.{Never, Each, Last, States, Page}
 
 -- a command of this name with these arguments
 abbrev pub with_rules : Text → List Rule → App
@@ -77,13 +77,27 @@ abbrev pub picture_words : Pictures → List Text
 picture_words Never = []
 picture_words Each = codes "--picture" ∷ []
 picture_words Last = codes "--picture=last" ∷ []
+picture_words States = []
+picture_words Page = []
 
 abbrev pub picture_value : Pictures → Option Text
 picture_value Never = None
 picture_value Each = Some (codes "each")
 picture_value Last = Some (codes "last")
+picture_value States = None
+picture_value Page = None
+
+-- what the option `--picture` says of them
+abbrev pub said_pictures : Pictures → Pictures
+said_pictures Never = Never
+said_pictures Each = Each
+said_pictures Last = Last
+said_pictures States = Never
+said_pictures Page = Never
 
 abbrev pub draws_any : Pictures → Bool
 draws_any Never = false
 draws_any Each = true
 draws_any Last = true
+draws_any States = true
+draws_any Page = true

@@ -1,15 +1,19 @@
 -- The words of `schedules`.
-use Rattle.std.specs.Prelude.{◌≡◌, ◌⊎◌, ◌^◌, ◌<◌, ◌||◌, Bool, true, false, not, List, [], ◌∷◌, ◌++◌, codes, decimal, find, is_some, option_and_then, Option, Some, None}
+use Rattle.std.specs.Prelude.{◌≡◌, ◌⊎◌, ◌^◌, ◌<◌, ◌||◌, ◌&&◌, Bool, true, false, not, List, [], ◌∷◌, ◌++◌, codes, decimal, find, is_some, option_and_then, Option, Some, None, if◌then◌else◌}
 use Rattle.std.specs.Str.{bytes_eq}
 use Rattle.clap.specs.Words.{App, Row, Rule, Text}
 use Rattle.clap.specs.declared.parser.matches.ValueSource.{ValueSource}
 use Rattle.clap.specs.declared.parser.matches.ValueSource.TheVariants.{CommandLine, DefaultValue}
-use Rattle.commands.specs.declared.replay.Pictures.TheVariants.{Never}
+use Rattle.commands.specs.declared.replay.Pictures.TheVariants.{Never, Each, Last, States, Page}
+use Rattle.commands.specs.declared.replay.Pictures.{Pictures}
+use Rattle.commands.specs.declared.replay.TheConstants.{PAGE}
 use Rattle.commands.specs.declared.replay.Shown.{Shown}
 use Rattle.cover_command.specs.declared.request.CoverRequest.{CoverRequest}
 use Rattle.schedules.specs.declared.plan.SchedulePlan.{SchedulePlan}
+use Rattle.schedule_command.specs.Lists.{shows_page}
 use Rattle.schedule_command.specs.declared.request.ScheduleRequest.{ScheduleRequest}
 use Rattle.command_line.specs.OptionWords.{HasFlag, HasNumber, SaysNumber, SaysNumberBelow, bounded_rule, explain_rule, explain_words, flag_rule, flag_words, is_head, number_rule, queue_rules, with_rules}
+use Rattle.command_line.specs.ShownWords.{says_json, says_registers}
 
 -- A required number, and a percentage.
 abbrev pub said_rule : Text → Rule
@@ -28,6 +32,7 @@ schedules_app = with_rules (codes "schedules") (said_rule (codes "seed")
     ∷ flag_rule (codes "expect")
     ∷ flag_rule (codes "json")
     ∷ flag_rule (codes "registers")
+    ∷ flag_rule (codes "page")
     ∷ flag_rule (codes "device-only-real")
     ∷ flag_rule (codes "cover")
     ∷ flag_rule (codes "recommended")
@@ -37,11 +42,33 @@ schedules_app = with_rules (codes "schedules") (said_rule (codes "seed")
 -- Whether the expected output is printed as objects, and whether with registers.
 abbrev pub expects_json : Option Shown → Bool
 expects_json None = false
-expects_json (Some form) = form.json
+expects_json (Some form) = says_json form
 
 abbrev pub expects_registers : Option Shown → Bool
 expects_registers None = false
-expects_registers (Some form) = form.registers
+expects_registers (Some form) = says_registers form
+
+-- Whether the output of `replay` follows each list. A page has it anyway.
+abbrev pub says_expect : Option Shown → Bool
+says_expect expect = is_some expect && not (shows_page expect)
+
+-- The expected output has no pictures, or is a page.
+abbrev pub IsExpectedBy : Pictures → Bool → Bool → Type 0
+IsExpectedBy Never json registers = Unit {0}
+IsExpectedBy Each json registers = ⊥
+IsExpectedBy Last json registers = ⊥
+IsExpectedBy States json registers = ⊥
+IsExpectedBy Page json registers = (json ≡ true) × (registers ≡ true)
+
+abbrev pub IsExpected : Option Shown → Type 0
+IsExpected None = Unit {0}
+IsExpected (Some form) = IsExpectedBy form.pictures form.json form.registers
+
+-- What is expected for the values of the four flags, if they may stand together.
+abbrev pub expect_of : Bool → Bool → Bool → Bool → Option (Option Shown)
+expect_of page stands json registers = if page then (if stands || (json || registers) then None else Some (Some PAGE))
+    else (if stands then Some (Some (record { json = json; registers = registers; pictures = Never }))
+    else (if json || registers then None else Some None))
 
 -- The expected output has no pictures.
 abbrev pub IsUndrawn : Option Shown → Type 0
@@ -49,14 +76,15 @@ IsUndrawn None = Unit {0}
 IsUndrawn (Some form) = form.pictures ≡ Never
 
 -- The last words: `--expect` if the output of `replay` follows each list, `--json` if it is printed as objects,
--- `--registers` if registers are shown, `--device-only-real` if only moves of silicon are made, and `--explain` if a
--- refusal is explained.
+-- `--registers` if registers are shown, `--page` if the output is a page, which excludes the three before it,
+-- `--device-only-real` if only moves of silicon are made, and `--explain` if a refusal is explained.
 abbrev pub last_words : Option Shown → Bool → Bool → List Text
 last_words expect device_only explained =
-    flag_words (codes "--expect") (is_some expect)
+    flag_words (codes "--expect") (says_expect expect)
     ++ (flag_words (codes "--json") (expects_json expect)
     ++ (flag_words (codes "--registers") (expects_registers expect)
-    ++ (flag_words (codes "--device-only-real") device_only ++ explain_words explained)))
+    ++ (flag_words (codes "--page") (shows_page expect)
+    ++ (flag_words (codes "--device-only-real") device_only ++ explain_words explained))))
 
 -- The words are `schedules` and its options in this order: the seed and the number of moves; `--off` if the queues
 -- begin disabled; `--head` if they report by a head word; and the last words.
@@ -77,7 +105,7 @@ pub record SaysSchedules (words : List Text) (request : ScheduleRequest) : Type 
       ++ (flag_words (codes "--off") (not request.plan.enabled)
       ++ (flag_words (codes "--head") (is_head request.plan.completion)
       ++ (refused ++ last_words request.expect request.plan.device_only explained))))))
-  pub undrawn : IsUndrawn request.expect
+  pub expected : IsExpected request.expect
 
 -- The recommended lists, for any queues.
 pub record IsRecommended (request : ScheduleRequest) : Type 0 where
@@ -98,7 +126,7 @@ pub record SaysRecommended (words : List Text) (request : ScheduleRequest) : Typ
       ∷ (ring ++ (pairs
       ++ (flag_words (codes "--off") (not request.plan.enabled)
       ++ (flag_words (codes "--head") (is_head request.plan.completion) ++ last_words request.expect request.plan.device_only explained))))
-  pub undrawn : IsUndrawn request.expect
+  pub expected : IsExpected request.expect
 
 -- The words request drawn lists, in either form.
 abbrev pub SaysLists : List Text → ScheduleRequest → Type 0
@@ -134,10 +162,11 @@ counts rows =
 
 -- The values of the arguments.
 pub record HasExpect (rows : List Row) (expect : Option Shown) : Type 0 where
-  pub stands : HasFlag rows (codes "expect") (is_some expect)
+  pub stands : HasFlag rows (codes "expect") (says_expect expect)
   pub json : HasFlag rows (codes "json") (expects_json expect)
   pub registers : HasFlag rows (codes "registers") (expects_registers expect)
-  pub undrawn : IsUndrawn expect
+  pub page : HasFlag rows (codes "page") (shows_page expect)
+  pub expected : IsExpected expect
 
 pub record HasQueues (rows : List Row) (plan : SchedulePlan) : Type 0 where
   pub ring : HasNumber rows (codes "ring") plan.ring
@@ -171,5 +200,6 @@ pub record HasCover (rows : List Row) (request : CoverRequest) : Type 0 where
   pub cover : HasFlag rows (codes "cover") true
   pub head : HasFlag rows (codes "head") (is_head request.completion)
   pub expect : HasExpect rows request.expect
+  pub no_page : HasFlag rows (codes "page") false
   pub device_only : HasFlag rows (codes "device-only-real") request.device_only
   pub undrawn : draws rows ≡ false

@@ -13,14 +13,14 @@ ghost use Rattle.forward_command.specs.declared.printing.Printing.{Printing as P
 ghost use Rattle.command_line.specs.Sayings.{Holds, IsAsked, Says, Saying, name_of};
 
 use crate::captures::{from_capture_in, to_capture_in};
-use crate::drawings::{draws_any, pictures_in};
 use crate::lists::lists_in;
 use crate::mistakes::{completed, error_of};
 use crate::program::program;
 use crate::reading::{flag_in, number_in, word_in};
+use crate::showing::shown_in;
 use clap::error::ErrorKind;
 use clap::{ArgMatches, Error};
-use commands::{Form, QueuePlan, Request, Shown};
+use commands::{Form, QueuePlan, Request};
 use cover_command::CoverRequest;
 use forward_command::Printing;
 use forward_command::piped::CaptureRequest;
@@ -35,6 +35,12 @@ const NOT_SAID: &str = "schedules needs --seed and --moves, --recommended or --c
 /// The error for a malformed `--picture`, or for `--picture` together with `--json`.
 const NOT_SHOWN: &str =
     "--picture takes no value, or each or last (--picture=last), and cannot be combined with --json";
+
+/// The error for `--page` together with another form of the output.
+const NOT_ONE_FORM: &str = "--page cannot be combined with --json, --registers or --picture";
+
+/// The error for `--page` together with `--cover` or a form of the expected output.
+const NOT_IN_PAGE: &str = "--page cannot be combined with --expect, --json, --registers or --cover";
 
 /// The error for options of drawn lists together with `--cover`.
 const NOT_DRAWN: &str =
@@ -104,6 +110,9 @@ fn fault<'a>(alloc: Global, matches: &ArgMatches<'a>) -> Error {
             let (kind, text) = schedules_fault_in(found);
             error_of(alloc, "schedules", kind, text)
         }
+        Some(("replay", found)) if found.get_flag("page") => {
+            error_of(alloc, "replay", ErrorKind::ArgumentConflict, NOT_ONE_FORM)
+        }
         Some((name, found)) if found.get_flag("json") => {
             error_of(alloc, name, ErrorKind::ArgumentConflict, NOT_SHOWN)
         }
@@ -115,6 +124,9 @@ fn fault<'a>(alloc: Global, matches: &ArgMatches<'a>) -> Error {
 /// Returns the kind and the text of the error for matches of `schedules`.
 fn schedules_fault_in<'a>(found: &ArgMatches<'a>) -> (ErrorKind, &'static str) {
     let has_form = found.get_flag("json") || found.get_flag("registers");
+    if found.get_flag("page") && has_other_form(found) {
+        return (ErrorKind::ArgumentConflict, NOT_IN_PAGE);
+    }
     if has_form && !found.get_flag("expect") {
         (ErrorKind::ArgumentConflict, NOT_EXPECTED)
     } else if found.get_flag("cover") {
@@ -124,6 +136,14 @@ fn schedules_fault_in<'a>(found: &ArgMatches<'a>) -> (ErrorKind, &'static str) {
     } else {
         (ErrorKind::MissingRequiredArgument, NOT_SAID)
     }
+}
+
+/// Whether there is an option that excludes `--page`.
+fn has_other_form<'a>(found: &ArgMatches<'a>) -> bool {
+    found.get_flag("expect")
+        || found.get_flag("json")
+        || found.get_flag("registers")
+        || found.get_flag("cover")
 }
 
 /// Reads the request from matches of the program's command line.
@@ -173,7 +193,7 @@ fn decode_in<'a>(decode: &ArgMatches<'a>) -> Option<Request<'a>>
     Some(Request::Decode { form, digits })
 }
 
-/// Reads the request from matches of `replay`. Returns `None` if `--picture` is not valid or is given with `--json`.
+/// Reads the request from matches of `replay`. Returns `None` if the form of the output is not valid.
 fn replay_in<'a>(replay: &ArgMatches<'a>) -> Option<Request<'a>>
     ensures { (plan : QueuePlan) → HasReplay (rows_of (found_of replay.now)) plan
         → IsSomeAnd result (λ r. IsReplayOf r plan) }
@@ -183,16 +203,7 @@ fn replay_in<'a>(replay: &ArgMatches<'a>) -> Option<Request<'a>>
     let enabled = !flag_in(replay, "off");
     let completion = completion_in(replay);
     let lists = flag_in(replay, "lists");
-    let pictures = pictures_in(replay)?;
-    let json = flag_in(replay, "json");
-    if json && draws_any(pictures) {
-        return None;
-    }
-    let shown = Shown {
-        json,
-        registers: flag_in(replay, "registers"),
-        pictures,
-    };
+    let shown = shown_in(replay)?;
     Some(Request::Replay {
         plan: QueuePlan {
             pairs,

@@ -12,11 +12,12 @@ use clap::parser::ValueSource;
 use cover_command::CoverRequest;
 
 /// Reads the request from matches of `schedules` with `--cover`. Returns `None` if an option of drawn lists is given,
+/// `--page`,
 /// or a form of the expected output without `--expect`.
 pub(crate) fn cover_in<'a>(matches: &ArgMatches<'a>) -> Option<CoverRequest>
     ensures { (request : Covering) → HasCover (rows_of (found_of matches.now)) request → result ≡ Some request }
 {
-    if draws(matches) {
+    if draws(matches) || flag_in(matches, "page") {
         return None;
     }
     let completion = completion_in(matches);

@@ -2,7 +2,7 @@
 ghost use Rattle.std.specs.Prelude.{◌≡◌, Some, codes};
 ghost use Rattle.clap.specs.Words.{first_of, found_of, rows_of};
 ghost use Rattle.commands.specs.declared.replay.Pictures.{Pictures as Drawn};
-ghost use Rattle.command_line.specs.OptionWords.{draws_any, picture_value};
+ghost use Rattle.command_line.specs.OptionWords.{draws_any, picture_value, said_pictures};
 
 use clap::ArgMatches;
 use commands::Pictures;
@@ -10,7 +10,7 @@ use commands::Pictures;
 /// Reads after which moves queues are drawn from matches of `replay`. Returns `None` if the value is not valid.
 pub(crate) fn pictures_in<'a>(replay: &ArgMatches<'a>) -> Option<Pictures>
     ensures { (pictures : Drawn) → first_of (codes "picture") (rows_of (found_of replay.now)) ≡ picture_value pictures
-        → result ≡ Some pictures }
+        → result ≡ Some (said_pictures pictures) }
 {
     match replay.get_str("picture") {
         Some(word) => pictures_named(word),
@@ -20,7 +20,7 @@ pub(crate) fn pictures_in<'a>(replay: &ArgMatches<'a>) -> Option<Pictures>
 
 /// The meaning of this word.
 fn pictures_named(word: &str) -> Option<Pictures>
-    ensures { (pictures : Drawn) → Some word.now ≡ picture_value pictures → result ≡ Some pictures }
+    ensures { (pictures : Drawn) → Some word.now ≡ picture_value pictures → result ≡ Some (said_pictures pictures) }
 {
     match word {
         "each" => Some(Pictures::Each),
@@ -35,6 +35,6 @@ pub(crate) fn draws_any(pictures: Pictures) -> bool
 {
     match pictures {
         Pictures::Never => false,
-        Pictures::Each | Pictures::Last => true,
+        Pictures::Each | Pictures::Last | Pictures::States | Pictures::Page => true,
     }
 }

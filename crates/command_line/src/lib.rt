@@ -21,6 +21,7 @@ mod mistakes;
 mod program;
 mod reading;
 mod running;
+mod showing;
 
 pub use command::{Asked, asked_of};
 pub use files::{ForwardFiles, files_of};

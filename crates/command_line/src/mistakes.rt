@@ -113,11 +113,12 @@ fn ranged<'t>(name: &str, text: &'t str) -> Option<(&'t str, &'t str, &'static s
 fn help_of(entry: &'static Entry<'static>, option: &str) -> Option<&'static str> {
     for param in entry.params {
         match *param {
-            Param::Number { id, help, .. } | Param::Said { id, help } | Param::Share { id, help } => {
-                if id == option {
-                    return Some(help);
+            Param::Number { id, help, .. } | Param::Said { id, help } | Param::Share { id, help } =>
+                {
+                    if id == option {
+                        return Some(help);
+                    }
                 }
-            }
             _ => {}
         }
     }

@@ -111,6 +111,10 @@ pub(crate) const COMMANDS: &[Entry] = &[
                 value: "each",
                 help: "Draw the queue after each move, one line per place; with =last only after the last move. Not with --json",
             },
+            Param::Flag {
+                id: "page",
+                help: "Print an HTML page that shows the queues after each move. Not with --json, --registers and --picture",
+            },
             EXPLAIN,
         ],
     },
@@ -274,6 +278,10 @@ pub(crate) const COMMANDS: &[Entry] = &[
             Param::Flag {
                 id: "registers",
                 help: "With --expect, print head, tail and ENABLE of the queue after each move, like replay --registers",
+            },
+            Param::Flag {
+                id: "page",
+                help: "Print an HTML page that shows the lists, like replay --page. Not with --expect, its forms and --cover",
             },
             Param::Flag {
                 id: "device-only-real",

@@ -45,10 +45,10 @@ decode-withheld form digits e old new (inr is) kept = inl (Err e, is, (refl, kep
 
 replay-done : (plan : QueuePlan) (text page : List ℕ) (old new : Option (List ℕ)) → IsReplayed plan (Some text) page → Appends old new page → EndsReplay plan text DONE old new
 replay-done plan text page old new (read, same, has) printed = subst (λ (t : List ℕ). EndsReplay plan t DONE old new) same (record {
-  done = λ e. record { moves = has.moves; replay = has.replay; page = page; replayed = has.printed; printed = printed };
+  done = λ e. record { page = page; has = has; printed = printed };
   either = inl refl;
-  faulty = λ k f. absurd (faulty-unsaid (lines_of read) k has.moves f has.replay.says);
-  no_queues = λ cannot. absurd (cannot has.replay.queues);
+  faulty = λ k f. absurd (faulty-unsaid (lines_of read) k has.has.moves f has.has.replay.says);
+  no_queues = λ cannot. absurd (cannot has.has.replay.queues);
 })
 
 -- refused is not done
@@ -64,8 +64,8 @@ replay-unprinted : (plan : QueuePlan) (text page : List ℕ) (old new : Option (
 replay-unprinted plan text page old new (read, same, has) = subst (λ (t : List ℕ). EndsReplay plan t REFUSED old new) same (record {
   done = undone plan read old new;
   either = inr refl;
-  faulty = λ k f. absurd (faulty-unsaid (lines_of read) k has.moves f has.replay.says);
-  no_queues = λ cannot. absurd (cannot has.replay.queues);
+  faulty = λ k f. absurd (faulty-unsaid (lines_of read) k has.has.moves f has.has.replay.says);
+  no_queues = λ cannot. absurd (cannot has.has.replay.queues);
 })
 
 -- ---- a request

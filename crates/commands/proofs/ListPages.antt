@@ -13,7 +13,7 @@ use Rattle.commands.specs.declared.refusal.Refusal.{Refusal}
 use Rattle.commands.specs.declared.refusal.Refusal.TheVariants as refusal
 use Rattle.commands.specs.declared.replay.QueuePlan.{QueuePlan}
 use Rattle.commands.specs.Lists.{IsListCut, lists_of}
-use Rattle.commands.specs.Replay.{ArePages, HasPage, IsListPage, IsMoveList, IsPrinted, IsReplay, LacksMemory, Reads, ReplayRefused, Says}
+use Rattle.commands.specs.Replay.{ArePages, IsListPage, IsMoveList, IsPrinted, IsReplay, LacksMemory, Reads, ReplayRefused, Says}
 
 -- ---- lines that each are read
 

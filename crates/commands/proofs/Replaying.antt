@@ -25,7 +25,7 @@ use Rattle.ring_machine.proofs.shared.Running.{joined}
 use Rattle.text_lines.specs.Parts.{lines_of, says_something}
 use Rattle.commands.specs.declared.replay.QueuePlan.{QueuePlan}
 use Rattle.commands.specs.declared.replay.Shown.{Shown}
-use Rattle.commands.specs.Replay.{after_it, count_line, drawn_at_last, drawn_at_once, drawn_of, last_from, line_in, shown_registers, told_line, world_of, HasPage, IsDrawn, IsListPage, IsPrinted, LacksMemory, IsFaulty, IsMoveList, IsNoMove, IsPageOf, IsReplay, Reads, Says, Tells, WroteMove}
+use Rattle.commands.specs.Replay.{after_it, count_line, drawn_at_last, drawn_at_once, drawn_of, last_from, line_in, opening_of, shown_registers, told_line, world_of, HasData, IsDrawn, IsListPage, IsPrinted, LacksMemory, IsFaulty, IsMoveList, IsNoMove, IsPageOf, IsReplay, Reads, Says, Tells, WroteMove}
 
 -- what reading a line answers, in words of lists
 pub read-line : (line : List ℕ) (result : Result Move MachineError) → ((m : Move) → (result ≡ Ok m) ↔ (IsInRange m × (line ≡ text_of m))) → is_ok result ≡ true → Reads line
@@ -72,11 +72,11 @@ told w m (Err why) later before after d = did-refused w (queue_move m) why later
 -- a move that was made has its note in its line, and one that was refused has none
 pub wrote : (shown : Shown) (w : World) (m : Move) (r : Result Note MachineError) (old line new : List ℕ) (before later : QueueParts) → Did QueuesAgree (note_in w (queue_move m)) (after_it w m) r before later
     → (read : Option Registers) → ((w : World) → QueuesAgree later w → read ≡ shown_registers shown w m) → line ≡ old ++ told_line shown.json m (result_ok r) read
-    → new ≡ line ++ drawn_of later (drawn_at_once shown.pictures m) → WroteMove shown w m (is_some (result_ok r)) old new later
+    → new ≡ line ++ drawn_of shown.pictures later (drawn_at_once shown.pictures m) → WroteMove shown w m (is_some (result_ok r)) old new later
 wrote shown w m r old line new before later d read shows e behind = let did = told w m r (after_it w m) before later d in record {
-  drawn = drawn_of later (drawn_at_once shown.pictures m);
+  drawn = drawn_of shown.pictures later (drawn_at_once shown.pictures m);
   is_drawn = record { queues = later; agrees = d.agrees; drawn_is = refl };
-  text = drawn_behind old line new (drawn_of later (drawn_at_once shown.pictures m)) (line_in shown w m)
+  text = drawn_behind old line new (drawn_of shown.pictures later (drawn_at_once shown.pictures m)) (line_in shown w m)
       (e ∙ ap₂ (λ (told : Option Note) (r : Option Registers). old ++ told_line shown.json m told r) (sym did.0) (shows (after_it w m) d.agrees)) behind;
   agrees = d.agrees;
   counted = sym did.1;
@@ -145,8 +145,10 @@ good-faulty text number line later none g = record {
 }
 
 -- so many moves are written, and these lines are left
-pub record Followed (shown : Shown) (w : World) (moves : List Move) (page : List ℕ) (made : ℕ) (now : QueueParts) : Type 0 where
-  pub tells : Tells shown w moves page
+pub record Followed (shown : Shown) (w : World) (moves : List Move) (page : List ℕ) (made : ℕ) (first now : QueueParts) : Type 0 where
+  pub lines : List ℕ
+  pub tells : Tells shown w moves lines
+  pub page_is : page ≡ opening_of shown.pictures first ++ lines
   pub agrees : QueuesAgree now (after_moves w (map queue_move moves))
   pub counted : made ≡ moves_happened w (map queue_move moves)
 
@@ -157,9 +159,9 @@ pub record PageSoFar (shown : Shown) (text page : List ℕ) (made read : ℕ) (l
   pub says : Says before moves
   pub count : read ≡ length moves
   pub last_is : last ≡ last_from None moves
-  pub follows : (pairs n : ℕ) (w : World) → IsReachableWorld pairs n w → QueuesAgree first w → Followed shown w moves page made now
+  pub follows : (pairs n : ℕ) (w : World) → IsReachableWorld pairs n w → QueuesAgree first w → Followed shown w moves page made first now
 
-pub page-first : (shown : Shown) (text page : List ℕ) (queues : QueueParts) → page ≡ [] → PageSoFar shown text page 0 0 None (lines_of text) queues queues
+pub page-first : (shown : Shown) (text page : List ℕ) (queues : QueueParts) → page ≡ opening_of shown.pictures queues → PageSoFar shown text page 0 0 None (lines_of text) queues queues
 page-first shown text page queues e = record {
   before = [];
   split = refl;
@@ -167,7 +169,13 @@ page-first shown text page queues e = record {
   says = says-none;
   count = refl;
   last_is = refl;
-  follows = λ pairs n w reached agrees. record { tells = e; agrees = agrees; counted = refl };
+  follows = λ pairs n w reached agrees. record {
+    lines = [];
+    tells = refl;
+    page_is = e ∙ sym (append-nil (opening_of shown.pictures queues));
+    agrees = agrees;
+    counted = refl;
+  };
 }
 
 pub page-skipped : (shown : Shown) (text page : List ℕ) (made read : ℕ) (last : Option Move) (line : List ℕ) (later : List (List ℕ)) (first now : QueueParts) → says_something line ≡ false
@@ -192,7 +200,7 @@ told-later line drawn later whole more is =
     ap (λ (t : List ℕ). t ++ more) is ∙ append_assoc line (drawn ++ later) more ∙ ap (λ (t : List ℕ). line ++ t) (append_assoc drawn later more)
 
 tells-more : (shown : Shown) (w : World) (ms : List Move) (m : Move) (lines drawn : List ℕ) → Tells shown w ms lines
-    → IsDrawn (after_it (after_moves w (map queue_move ms)) m) (drawn_at_once shown.pictures m) drawn
+    → IsDrawn shown.pictures (after_it (after_moves w (map queue_move ms)) m) (drawn_at_once shown.pictures m) drawn
     → Tells shown w (ms ++ m ∷ []) (lines ++ (line_in shown (after_moves w (map queue_move ms)) m ++ drawn))
 tells-more shown w [] m lines drawn is draws = (
   drawn,
@@ -230,7 +238,9 @@ page-more shown text page later_page made added read more last line later first 
   follows = λ pairs n w reached agrees. let f = p.follows pairs n w reached agrees in let here = after_moves w (map queue_move p.moves) in let one = wrote pairs n here (reached_world pairs n w (map queue_move p.moves) reached) f.agrees in
       let both = joined can_move after_move QueuesAgree after w (map queue_move p.moves) (queue_move m ∷ []) made added f.counted (one.agrees, adds ∙ (ap from_bool one.counted ∙ sym (one_happened (can_move here (queue_move m))))) in
       let whole : map queue_move (p.moves ++ m ∷ []) ≡ map queue_move p.moves ++ queue_move m ∷ [] = map-append queue_move p.moves (m ∷ []) in record {
-        tells = subst (λ (t : List ℕ). Tells shown w (p.moves ++ m ∷ []) t) (sym one.text) (tells-more shown w p.moves m page one.drawn f.tells one.is_drawn);
+        lines = f.lines ++ (line_in shown here m ++ one.drawn);
+        tells = tells-more shown w p.moves m f.lines one.drawn f.tells one.is_drawn;
+        page_is = drawn_behind (opening_of shown.pictures first) page later_page (line_in shown here m ++ one.drawn) f.lines f.page_is one.text;
         agrees = subst (λ (ms : List QueueMove). QueuesAgree after (after_moves w ms)) (sym whole) both.0;
         counted = subst (λ (ms : List QueueMove). made + added ≡ moves_happened w ms) (sym whole) both.1;
       };
@@ -271,18 +281,25 @@ pub read-said : (shown : Shown) (text page : List ℕ) (made read : ℕ) (last :
     → PageSoFar shown text page made read last (line ∷ later) first now → ⊥
 read-said shown text page made read last line later first now (ms, says) none p = unsaid p.before later line ms none says.in_range (ap (filter says_something) p.split ∙ says.texts)
 
+behind_opening : (opening lines page more drawn count whole : List ℕ) → page ≡ opening ++ lines → drawn ≡ page ++ more → whole ≡ drawn ++ count → whole ≡ opening ++ (lines ++ (more ++ count))
+behind_opening opening lines page more drawn count whole page_is drawn_is whole_is =
+    drawn_behind page drawn whole count more drawn_is whole_is ∙ ap (λ (t : List ℕ). t ++ (more ++ count)) page_is ∙ append_assoc opening lines (more ++ count)
+
 -- when no line is left, the page lacks what is drawn at last, and the count
 pub page-last : (shown : Shown) (w : World) (pairs n : ℕ) (text page drawn whole : List ℕ) (made read : ℕ) (last : Option Move) (first now : QueueParts) → IsReachableWorld pairs n w → QueuesAgree first w
-    → drawn ≡ page ++ drawn_of now (drawn_at_last shown.pictures last) → whole ≡ drawn ++ count_line shown.json made read → PageSoFar shown text page made read last [] first now → IsPageOf shown w text whole
+    → drawn ≡ page ++ drawn_of shown.pictures now (drawn_at_last shown.pictures last) → whole ≡ drawn ++ count_line shown.json made read → PageSoFar shown text page made read last [] first now → IsPageOf shown w text whole
 page-last shown w pairs n text page drawn whole made read last first now reached agrees behind e p = let f = p.follows pairs n w reached agrees in record {
   moves = p.moves;
   says = subst (λ (lines : List (List ℕ)). Says lines p.moves) (sym (append-nil p.before) ∙ p.split) p.says;
   printed = record {
-    lines = page;
-    drawn = drawn_of now (drawn_at_last shown.pictures last);
+    opening = opening_of shown.pictures first;
+    is_opening = record { queues = first; agrees = agrees; opening_is = refl };
+    lines = f.lines;
+    drawn = drawn_of shown.pictures now (drawn_at_last shown.pictures last);
     tells = f.tells;
-    is_drawn = record { queues = now; agrees = f.agrees; drawn_is = ap (λ (o : Option Move). drawn_of now (drawn_at_last shown.pictures o)) p.last_is };
-    page_is = drawn_behind page drawn whole (count_line shown.json (moves_happened w (map queue_move p.moves)) (length p.moves)) (drawn_of now (drawn_at_last shown.pictures last)) behind
+    is_drawn = record { queues = now; agrees = f.agrees; drawn_is = ap (λ (o : Option Move). drawn_of shown.pictures now (drawn_at_last shown.pictures o)) p.last_is };
+    page_is = behind_opening (opening_of shown.pictures first) f.lines page (drawn_of shown.pictures now (drawn_at_last shown.pictures last)) drawn
+        (count_line shown.json (moves_happened w (map queue_move p.moves)) (length p.moves)) whole f.page_is behind
         (e ∙ ap (λ (t : List ℕ). drawn ++ t) (ap₂ (λ (x y : ℕ). count_line shown.json x y) f.counted p.count));
   };
 }
@@ -310,10 +327,10 @@ page-of : (plan : QueuePlan) (text page : List ℕ) (queues : QueueParts) → Qu
 page-of plan text page queues agrees is_page =
     is_page plan.pairs plan.ring (world_of plan) (opening-reached plan.pairs plan.ring (record { enabled = plan.enabled; completion = plan.completion })) agrees
 
--- the page is that of the plan's queues as they are made
-pub has-page : (plan : QueuePlan) (text page : List ℕ) (queues : QueueParts) → plan.lists ≡ false → ((AreQueues plan.pairs plan.ring → ⊥) → ⊥) → QueuesAgree queues (world_of plan)
-    → ((pairs n : ℕ) (w : World) → IsReachableWorld pairs n w → QueuesAgree queues w → IsPageOf plan.shown w text page) → HasPage plan text page
-has-page plan text page queues one able agrees is_page = let p = page-of plan text page queues agrees is_page in record {
+-- the data are those of the plan's queues as they are made
+pub has-data : (plan : QueuePlan) (text page : List ℕ) (queues : QueueParts) → plan.lists ≡ false → ((AreQueues plan.pairs plan.ring → ⊥) → ⊥) → QueuesAgree queues (world_of plan)
+    → ((pairs n : ℕ) (w : World) → IsReachableWorld pairs n w → QueuesAgree queues w → IsPageOf plan.shown w text page) → HasData plan text page
+has-data plan text page queues one able agrees is_page = let p = page-of plan text page queues agrees is_page in record {
   moves = p.moves;
   replay = record { says = p.says; queues = are-queues plan.pairs plan.ring able };
   printed = subst (λ (b : Bool). IsPrinted b plan text p.moves page) (sym one) p.printed;

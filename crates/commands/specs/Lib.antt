@@ -5,4 +5,5 @@ pub mod Decoding
 pub mod Passing
 pub mod Answers
 pub mod Lists
+pub mod Page
 pub mod Replay

@@ -12,7 +12,9 @@ use Rattle.ring_model.specs.NoteTexts.{note_text}
 use Rattle.ring_model.specs.Worlds.{World, opening_world, after_move, after_moves, can_move, moves_happened, note_in}
 use Rattle.ring_machine.specs.Queues.{AreQueues, QueueParts, QueuesAgree, queue_move}
 use Rattle.ring_machine.specs.Registers.{registers_in}
+use Rattle.limits.specs.declared.profile.TheConstants.{MOST_PAIRS}
 use Rattle.pictures.specs.Pictures.{queue_picture}
+use Rattle.pictures.specs.States.{opening_lines, state_line}
 use Rattle.ring_machine.specs.declared.registers.Registers.{Registers}
 use Rattle.ring_machine.specs.declared.registers.Side.{Side}
 use Rattle.ring_machine.specs.declared.registers.Side.TheVariants as side
@@ -27,6 +29,7 @@ use Rattle.commands.specs.declared.answering.TheConstants.{DONE, REFUSED}
 use Rattle.commands.specs.declared.refusal.Refusal.{Refusal}
 use Rattle.commands.specs.declared.refusal.Refusal.TheVariants as refusal
 use Rattle.commands.specs.Lists.{lists_of}
+use Rattle.commands.specs.Page.{page_of}
 
 -- The lines that are not skipped are the texts of these moves, in order.
 pub record Says (lines : List (List ℕ)) (moves : List Move) : Type 0 where
@@ -113,26 +116,53 @@ abbrev pub drawn_at_once : Pictures → Move → Option Move
 drawn_at_once pictures.Never m = None
 drawn_at_once pictures.Each m = Some m
 drawn_at_once pictures.Last m = None
+drawn_at_once pictures.States m = Some m
+drawn_at_once pictures.Page m = Some m
 
 abbrev pub drawn_at_last : Pictures → Option Move → Option Move
 drawn_at_last pictures.Never last = None
 drawn_at_last pictures.Each last = None
 drawn_at_last pictures.Last last = last
+drawn_at_last pictures.States last = None
+drawn_at_last pictures.Page last = None
 
-abbrev pub drawn_of : QueueParts → Option Move → List ℕ
-drawn_of queues None = []
-drawn_of queues (Some m) = queue_picture queues m
+-- Whether the output is a page, and whether a queue is drawn as a line of JSON with its state.
+abbrev pub is_page : Pictures → Bool
+is_page pictures.Page = true
+is_page form = false
+
+abbrev pub has_states : Pictures → Bool
+has_states pictures.States = true
+has_states pictures.Page = true
+has_states form = false
+
+abbrev pub queue_drawing : Pictures → QueueParts → Move → List ℕ
+queue_drawing form queues m = if has_states form then state_line queues m else queue_picture queues m
+
+abbrev pub drawn_of : Pictures → QueueParts → Option Move → List ℕ
+drawn_of form queues None = []
+drawn_of form queues (Some m) = queue_drawing form queues m
+
+-- The text before the first move: with states, a line for each queue.
+abbrev pub opening_of : Pictures → QueueParts → List ℕ
+opening_of form queues = if has_states form then opening_lines queues MOST_PAIRS else []
 
 -- The picture of queues that agree with this world.
-pub record IsDrawn (w : World) (action : Option Move) (drawn : List ℕ) : Type 0 where
+pub record IsDrawn (form : Pictures) (w : World) (action : Option Move) (drawn : List ℕ) : Type 0 where
   pub queues : QueueParts
   pub agrees : QueuesAgree queues w
-  pub drawn_is : drawn ≡ drawn_of queues action
+  pub drawn_is : drawn ≡ drawn_of form queues action
+
+-- The text before the first move, of queues that agree with this world.
+pub record IsOpening (form : Pictures) (w : World) (opening : List ℕ) : Type 0 where
+  pub queues : QueueParts
+  pub agrees : QueuesAgree queues w
+  pub opening_is : opening ≡ opening_of form queues
 
 -- The lines of the moves. After each line comes the picture, if any, of its queue after the move.
 abbrev pub Tells : Shown → World → List Move → List ℕ → Type 0
 Tells shown w [] lines = lines ≡ []
-Tells shown w (m ∷ ms) lines = (drawn : List ℕ) × (later : List ℕ) × IsDrawn (after_it w m) (drawn_at_once shown.pictures m) drawn
+Tells shown w (m ∷ ms) lines = (drawn : List ℕ) × (later : List ℕ) × IsDrawn shown.pictures (after_it w m) (drawn_at_once shown.pictures m) drawn
     × Tells shown (after_it w m) ms later × (lines ≡ line_in shown w m ++ (drawn ++ later))
 
 -- The last move: `last`, if no moves follow.
@@ -144,14 +174,16 @@ abbrev pub count_line : Bool → ℕ → ℕ → List ℕ
 count_line false made read = codes "moves " ++ (decimal made ++ (codes " of " ++ (decimal read ++ 10 ∷ [])))
 count_line true made read = codes "{\"made\":" ++ (decimal made ++ (codes ",\"read\":" ++ (decimal read ++ codes "}\n")))
 
--- The page has the lines of each move, a picture of the last one's queue, if selected, and the number of moves that
--- happened.
+-- The page has the text before the first move, the lines of each move, a picture of the last one's queue, if selected,
+-- and the number of moves that happened.
 pub record Replayed (shown : Shown) (w : World) (ms : List Move) (page : List ℕ) : Type 0 where
+  pub opening : List ℕ
+  pub is_opening : IsOpening shown.pictures w opening
   pub lines : List ℕ
   pub drawn : List ℕ
   pub tells : Tells shown w ms lines
-  pub is_drawn : IsDrawn (after_moves w (map queue_move ms)) (drawn_at_last shown.pictures (last_from None ms)) drawn
-  pub page_is : page ≡ lines ++ (drawn ++ count_line shown.json (moves_happened w (map queue_move ms)) (length ms))
+  pub is_drawn : IsDrawn shown.pictures (after_moves w (map queue_move ms)) (drawn_at_last shown.pictures (last_from None ms)) drawn
+  pub page_is : page ≡ opening ++ (lines ++ (drawn ++ count_line shown.json (moves_happened w (map queue_move ms)) (length ms)))
 
 -- The page is the output for the text's moves.
 pub record IsPageOf (shown : Shown) (w : World) (text page : List ℕ) : Type 0 where
@@ -185,18 +217,27 @@ abbrev pub IsPrinted : Bool → QueuePlan → List ℕ → List Move → List �
 IsPrinted false plan text moves page = Replayed plan.shown (world_of plan) moves page
 IsPrinted true plan text moves page = ArePages plan (lists_of (lines_of text)) page
 
--- The page is the output for a text on queues of the plan.
-pub record HasPage (plan : QueuePlan) (text page : List ℕ) : Type 0 where
+-- The data are the output for a text on queues of the plan, apart from the frame of a page.
+pub record HasData (plan : QueuePlan) (text content : List ℕ) : Type 0 where
   pub moves : List Move
   pub replay : IsReplay plan text moves
-  pub printed : IsPrinted plan.lists plan text moves page
+  pub printed : IsPrinted plan.lists plan text moves content
+
+-- The data are the output, or are in a page.
+abbrev pub framed : Bool → List ℕ → List ℕ
+framed false content = content
+framed true content = page_of content
+
+-- The page is the output for a text on queues of the plan.
+pub record HasPage (plan : QueuePlan) (text page : List ℕ) : Type 0 where
+  pub content : List ℕ
+  pub has : HasData plan text content
+  pub page_is : page ≡ framed (is_page plan.shown.pictures) content
 
 -- The output for all moves was printed.
 pub record HasReplayed (plan : QueuePlan) (text : List ℕ) (old new : Option (List ℕ)) : Type 0 where
-  pub moves : List Move
-  pub replay : IsReplay plan text moves
   pub page : List ℕ
-  pub replayed : IsPrinted plan.lists plan text moves page
+  pub has : HasPage plan text page
   pub printed : Appends old new page
 
 -- Why a text is refused, the first that applies: a faulty line, then queues that cannot exist, then a lack of memory.
@@ -231,7 +272,7 @@ pub record EndsReplay (plan : QueuePlan) (text : List ℕ) (status : ℕ) (old n
 -- The output for one move was written, and the queues agree with the world after it.
 pub record WroteMove (shown : Shown) (w : World) (m : Move) (made : Bool) (old new : List ℕ) (queues : QueueParts) : Type 0 where
   pub drawn : List ℕ
-  pub is_drawn : IsDrawn (after_it w m) (drawn_at_once shown.pictures m) drawn
+  pub is_drawn : IsDrawn shown.pictures (after_it w m) (drawn_at_once shown.pictures m) drawn
   pub text : new ≡ old ++ (line_in shown w m ++ drawn)
   pub agrees : QueuesAgree queues (after_it w m)
   pub counted : made ≡ can_move w (queue_move m)

@@ -19,6 +19,7 @@ mod frame;
 mod input;
 mod lists;
 mod once;
+mod page;
 mod passing;
 mod refusal;
 mod replay;
@@ -29,6 +30,7 @@ pub use answering::{DONE, REFUSED, answer, perform, print, put, refuse, refuse_e
 pub use decode::Form;
 pub use explaining::{Excerpt, explain_queues, line_at};
 pub use input::read_text;
+pub use page::{PAGE_HEAD, PAGE_TAIL, page_with};
 pub use refusal::Refusal;
-pub use replay::{NOTES, Pictures, QueuePlan, Shown, replay_text};
+pub use replay::{NOTES, PAGE, PAGE_DATA, Pictures, QueuePlan, Shown, replay_text};
 pub use request::Request;

@@ -7,34 +7,57 @@ ghost use Rattle.refusals.specs.declared.errors.MachineError.TheVariants.{RingLe
 ghost use Rattle.ring_machine.specs.Queues.{AreQueues, QueuesAgree};
 ghost use Rattle.text_lines.specs.Parts.{lines_of, says_something};
 ghost use Rattle.commands.specs.Lists.{lists_of};
-ghost use Rattle.commands.specs.Replay.{ArePages, HasPage, IsFaulty, IsListPage, IsMoveList, IsNoMove, IsPageOf, IsReplayed, LacksMemory, Reads, RefusesReplay, ReplayRefused, WroteMove, drawn_at_last, drawn_at_once, drawn_of, shown_registers, world_of};
+ghost use Rattle.commands.specs.Replay.{ArePages, HasData, HasPage, IsFaulty, IsListPage, IsMoveList, IsNoMove, IsPageOf, IsReplayed, LacksMemory, Reads, RefusesReplay, ReplayRefused, WroteMove, drawn_at_last, drawn_at_once, drawn_of, has_states, is_page, opening_of, queue_drawing, shown_registers, world_of};
 
 use crate::explaining::{explain_move, line_at};
 use crate::input::read_text;
 use crate::lists::cut_list;
+use crate::page::page_with;
 use crate::refusal::Refusal;
 use crate::telling::{write_count, write_told};
-use pictures::write_queue;
+use pictures::{write_opening, write_queue, write_state};
 use ring_machine::{Completion, MachineError, Move, Queues, Registers};
 use std::alloc::{AllocError, Global};
 use std::io::Read;
 use text_lines::{cut, says_something};
 
-/// After which moves `replay` draws the queue of the move (`write_queue` of `pictures`).
+/// After which moves `replay` draws the queue of the move, and how.
 #[derive(Clone, Copy, PartialEq, Eq)]
 pub enum Pictures {
+    /// After none.
     Never,
+    /// After each, as `write_queue` of `pictures` draws it.
     Each,
+    /// After the last one, as `write_queue` draws it.
     Last,
+    /// After each, as a line of JSON (`write_state`). Before the first move there is a line for each queue
+    /// (`write_opening`).
+    States,
+    /// The same, as the data of an HTML page, which is the whole output. It shows [`PAGE`].
+    Page,
 }
 
 impl Pictures {
+    /// Whether the output is a page.
+    pub fn is_page(self) -> bool
+        ensures { result ≡ is_page self }
+    {
+        matches!(self, Pictures::Page)
+    }
+
+    /// Whether queues are drawn as lines of JSON.
+    fn has_states(self) -> bool
+        ensures { result ≡ has_states self }
+    {
+        matches!(self, Pictures::States | Pictures::Page)
+    }
+
     /// The move whose queue is drawn directly after its line.
     fn at_once(self, action: Move) -> Option<Move>
         ensures { result ≡ drawn_at_once self action }
     {
         match self {
-            Pictures::Each => Some(action),
+            Pictures::Each | Pictures::States | Pictures::Page => Some(action),
             Pictures::Never | Pictures::Last => None,
         }
     }
@@ -45,7 +68,7 @@ impl Pictures {
     {
         match self {
             Pictures::Last => last,
-            Pictures::Never | Pictures::Each => None,
+            Pictures::Never | Pictures::Each | Pictures::States | Pictures::Page => None,
         }
     }
 }
@@ -64,6 +87,20 @@ pub const NOTES: Shown = Shown {
     json: false,
     registers: false,
     pictures: Pictures::Never,
+};
+
+/// The data of a page: notes and registers as objects, and states.
+pub const PAGE_DATA: Shown = Shown {
+    json: true,
+    registers: true,
+    pictures: Pictures::States,
+};
+
+/// An HTML page with these data.
+pub const PAGE: Shown = Shown {
+    json: true,
+    registers: true,
+    pictures: Pictures::Page,
 };
 
 /// The queues on which the moves are made, and the output: the number of pairs, the descriptors per ring, whether the
@@ -112,7 +149,7 @@ pub(crate) fn replay_explained<I: Read>(
     page_for(alloc, plan, text.as_slice(), why)
 }
 
-/// The output for a text. The text is checked first, so that no move of a faulty one is made.
+/// The output for a text.
 fn page_for(
     alloc: Global,
     plan: QueuePlan,
@@ -120,6 +157,25 @@ fn page_for(
     why: &mut String,
 ) -> Result<String, Refusal>
     ensures done { IfOk result (λ page. HasPage plan text.now (string_bytes page)) }
+    ensures refused { IfErr result (λ e. ReplayRefused plan text.now e) }
+{
+    let content = content_for(alloc, plan, text, why)?;
+    if plan.shown.pictures.is_page() {
+        Ok(page_with(alloc, content.as_str())?)
+    } else {
+        Ok(content)
+    }
+}
+
+/// The output for a text, without the frame of a page. The text is checked first, so that no move of a faulty one is
+/// made.
+fn content_for(
+    alloc: Global,
+    plan: QueuePlan,
+    text: &[u8],
+    why: &mut String,
+) -> Result<String, Refusal>
+    ensures done { IfOk result (λ content. HasData plan text.now (string_bytes content)) }
     ensures refused { IfErr result (λ e. ReplayRefused plan text.now e) }
 {
     if let Some(line) = faulty_line(text) {
@@ -211,7 +267,7 @@ fn page_of(
     ensures { IfOk result (λ page. (pairs n : ℕ) (w : World) → IsReachableWorld pairs n w → QueuesAgree queues.old w
         → IsPageOf shown w text.now (string_bytes page)) }
 {
-    let mut page = String::new(alloc);
+    let mut page = opening(alloc, shown.pictures, queues)?;
     let mut made: usize = 0;
     let mut read: usize = 0;
     let mut last = None;
@@ -228,7 +284,12 @@ fn page_of(
             last = Some(action);
         }
     }
-    draw(&mut page, queues, shown.pictures.at_last(last))?;
+    draw(
+        &mut page,
+        shown.pictures,
+        queues,
+        shown.pictures.at_last(last),
+    )?;
     write_count(&mut page, shown.json, made, read)?;
     Ok(page)
 }
@@ -244,13 +305,45 @@ fn shown_registers(shown: Shown, queues: &Queues, action: &Move) -> Option<Regis
     }
 }
 
+/// The text before the first move.
+fn opening(alloc: Global, pictures: Pictures, queues: &Queues) -> Result<String, AllocError>
+    ensures { IfOk result (λ text. string_bytes text ≡ opening_of pictures queues.now) }
+{
+    let mut text = String::new(alloc);
+    if pictures.has_states() {
+        write_opening(&mut text, queues)?;
+    }
+    Ok(text)
+}
+
 /// Draws the queue of a move, if there is one.
-fn draw(page: &mut String, queues: &Queues, action: Option<Move>) -> Result<(), AllocError>
-    ensures { OnOk result (string_bytes page.new ≡ string_bytes page.old ++ drawn_of queues.now action) }
+fn draw(
+    page: &mut String,
+    pictures: Pictures,
+    queues: &Queues,
+    action: Option<Move>,
+) -> Result<(), AllocError>
+    ensures { OnOk result (string_bytes page.new ≡ string_bytes page.old ++ drawn_of pictures queues.now action) }
 {
     match action {
-        Some(action) => write_queue(page, queues, &action),
+        Some(action) => draw_queue(page, pictures, queues, &action),
         None => Ok(()),
+    }
+}
+
+/// Draws the queue of a move.
+fn draw_queue(
+    page: &mut String,
+    pictures: Pictures,
+    queues: &Queues,
+    action: &Move,
+) -> Result<(), AllocError>
+    ensures { OnOk result (string_bytes page.new ≡ string_bytes page.old ++ queue_drawing pictures queues.now action.now) }
+{
+    if pictures.has_states() {
+        write_state(page, queues, action)
+    } else {
+        write_queue(page, queues, action)
     }
 }
 
@@ -268,6 +361,11 @@ fn write_move(
     let told = queues.step(*action).ok();
     let read = shown_registers(shown, queues, action);
     write_told(page, shown.json, action, told, read)?;
-    draw(page, queues, shown.pictures.at_once(*action))?;
+    draw(
+        page,
+        shown.pictures,
+        queues,
+        shown.pictures.at_once(*action),
+    )?;
     Ok(told.is_some())
 }

@@ -27,7 +27,8 @@ impl fmt::Display for OrDash {
 /// The printed owners, in the order of [`Owner`].
 const OWNER_WORDS: [&str; 3] = ["drv", "ring", "ctl"];
 
-fn owner_word(owner: Owner) -> &'static str
+/// Returns the printed owner.
+pub(crate) fn owner_word(owner: Owner) -> &'static str
     ensures { result.now ≡ owner_word owner }
 {
     OWNER_WORDS[owner as usize]

@@ -13,9 +13,11 @@ const HEADING: &str = "place\titem\towner\tword\tbuffer\n";
 /// The longest ring whose places are all shown.
 const SHORT_RING: u16 = 8;
 
-fn place_before(size: u16, place: u16) -> u16
+/// Returns the place before this one.
+pub(crate) fn place_before(size: u16, place: u16) -> u16
     requires { place < size }
-    ensures { result ≡ place_before size place }
+    ensures value { result ≡ place_before size place }
+    ensures below { result < size }
 {
     if place == 0 { size - 1 } else { place - 1 }
 }

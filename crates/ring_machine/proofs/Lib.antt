@@ -5,3 +5,4 @@ pub mod SideBySide
 pub mod Reading
 pub mod QueuesRunning
 pub mod text
+pub mod Obstacles

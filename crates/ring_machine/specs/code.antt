@@ -5,3 +5,4 @@ pub mod Receive
 pub mod Transmit
 pub mod Words
 pub mod Fields
+pub mod Obstacles

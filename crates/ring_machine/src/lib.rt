@@ -4,12 +4,13 @@
 //! so do queues side by side with their world.
 //!
 //! One core of places, words and slots serves both directions. Each move has one line of text, which is printed and
-//! read.
+//! read. [`Queues::obstacle`] says why a move is not enabled.
 #![tactic(auto)]
 
 mod counting;
 mod machine;
 mod moves;
+mod obstacle;
 mod queues;
 mod registers;
 
@@ -17,6 +18,7 @@ pub use limits::is_ring_length;
 pub use machine::{QueueMachine, RxMachine, TxMachine};
 pub use moves::arguments::{SegmentDescriptor, SegmentLength};
 pub use moves::{Move, MoveName, QueueNumber};
+pub use obstacle::Obstacle;
 pub use queues::Queues;
 pub use refusals::MachineError;
 pub use registers::{QUEUE_STRIDE, RDH, RDT, RXDCTL, Registers, Side, TDH, TDT, TXDCTL};

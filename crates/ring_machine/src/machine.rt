@@ -1,5 +1,6 @@
 //! One queue as a machine, in either direction.
 
+mod hindering;
 mod queue;
 mod receive;
 mod transmit;

@@ -1,6 +1,6 @@
 //! Several queues side by side: the receive and the transmit queues of one port.
 
-ghost use Rattle.std.specs.Prelude.{◌≡◌, ◌↔◌, ◌⊎◌, IfOk, IfErr, option_map, replicate, slice_get};
+ghost use Rattle.std.specs.Prelude.{◌≡◌, ◌↔◌, ◌⊎◌, IfOk, IfErr, is_none, option_map, replicate, slice_get};
 ghost use Rattle.refusals.specs.declared.errors.MachineError.TheVariants.{Memory, NotEnabled, RingLength};
 ghost use Rattle.ring_machine.specs.declared.moves.Move.TheVariants as queue_move;
 ghost use Rattle.limits.specs.RingLength.{IsRingLength};
@@ -12,11 +12,13 @@ ghost use Rattle.ring_machine.specs.receive.Machine.{RxAgrees};
 ghost use Rattle.ring_machine.specs.transmit.Machine.{TxAgrees};
 ghost use Rattle.ring_machine.specs.Queues.{AllAgree, AreQueues, QueuesAgree, QueuesFollow, QueuesRun};
 ghost use Rattle.ring_machine.specs.Registers.{QueuesRead};
+ghost use Rattle.ring_machine.specs.code.Obstacles.{queue_may, queue_obstacle};
 
 use crate::counting::count_of;
 use crate::machine::{RxMachine, TxMachine};
 use crate::moves::arguments::{SegmentDescriptor, SegmentLength};
 use crate::moves::{Move, QueueNumber};
+use crate::obstacle::Obstacle;
 use crate::registers::{Registers, Side};
 use limits::{MOST_PAIRS, is_ring_length};
 use refusals::MachineError;
@@ -144,6 +146,30 @@ impl Queues {
         ensures { option_map (λ m. m.now) result ≡ slice_get self.now.transmit queue }
     {
         self.transmit.get(usize::from(queue.number()))
+    }
+
+    /// Returns the first condition of a move that does not hold, or `None` if its queue can make it.
+    pub fn obstacle(&self, action: &Move) -> Option<Obstacle>
+        ensures value { result ≡ queue_obstacle self.now action.now }
+        ensures exact { is_none result ≡ queue_may self.now action.now }
+    {
+        self.hindrance(action)
+    }
+
+    // Returns that condition.
+    fn hindrance(&self, action: &Move) -> Option<Obstacle>
+        ensures { result ≡ queue_obstacle self.now action.now }
+    {
+        match action {
+            Move::Receive(queue, step) => match self.receive(*queue) {
+                Some(machine) => machine.obstacle(step),
+                None => Some(Obstacle::NoQueue),
+            },
+            Move::Transmit(queue, step) => match self.transmit(*queue) {
+                Some(machine) => machine.obstacle(step),
+                None => Some(Obstacle::NoQueue),
+            },
+        }
     }
 
     // Makes a step of a receive queue. Returns `NotEnabled` if the queue cannot make it or does not exist.

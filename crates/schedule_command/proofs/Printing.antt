@@ -6,7 +6,7 @@ use Rattle.std.proofs.KnownBytes.{Appends-nil, Appends-trans}
 use Rattle.std.proofs.lemmas.List.{append-nil}
 use Rattle.std.proofs.lemmas.List.Concat.{flat_map-append}
 use Rattle.std.proofs.lemmas.List.Elements.{All-append, All-cons, All-nil}
-use Rattle.schedule_command.specs.Lists.{IsPrinted, Prints, joined}
+use Rattle.schedule_command.specs.Lists.{AreShown, IsPrinted, IsShown, PrintsLists, joined}
 use Rattle.schedule_command.specs.declared.request.ScheduleRequest.{ScheduleRequest}
 
 -- so many lists were printed; and there can be such queues, if there was one
@@ -31,5 +31,26 @@ one-printed r k old now later text is adds s = record {
   appends = subst (Appends old later) (sym (joined-append s.texts text)) (Appends-trans old now later (joined s.texts) text s.appends adds);
 }
 
-pub all-printed : (r : ScheduleRequest) (k : ℕ) (old new : Option (List ℕ)) → k ≡ r.count → PrintedSoFar r k old new → Prints r old new
+pub all-printed : (r : ScheduleRequest) (k : ℕ) (old new : Option (List ℕ)) → k ≡ r.count → PrintedSoFar r k old new → PrintsLists r old new
 all-printed r k old new whole s = record { texts = s.texts; count = s.count ∙ whole; each = s.each; appends = s.appends }
+
+-- so many lists are shown
+pub record ShownSoFar (r : ScheduleRequest) (k : ℕ) (content : List ℕ) : Type 0 where
+  pub contents : List (List ℕ)
+  pub count : length contents ≡ k
+  pub each : All (IsShown r) contents
+  pub content_is : content ≡ joined contents
+
+pub none-shown : (r : ScheduleRequest) (content : List ℕ) → content ≡ [] → ShownSoFar r 0 content
+none-shown r content none = record { contents = []; count = refl; each = All-nil (IsShown r); content_is = none }
+
+pub one-shown : (r : ScheduleRequest) (k : ℕ) (content one later : List ℕ) → IsShown r one → later ≡ content ++ one → ShownSoFar r k content → ShownSoFar r (k + 1) later
+one-shown r k content one later is adds s = record {
+  contents = s.contents ++ one ∷ [];
+  count = length-append s.contents (one ∷ []) ∙ ap (λ (n : ℕ). n + 1) s.count;
+  each = All-append (IsShown r) s.contents (one ∷ []) s.each (All-cons (IsShown r) one [] is (All-nil (IsShown r)));
+  content_is = adds ∙ ap (λ (t : List ℕ). t ++ one) s.content_is ∙ sym (joined-append s.contents one);
+}
+
+pub all-shown : (r : ScheduleRequest) (k : ℕ) (content : List ℕ) → k ≡ r.count → ShownSoFar r k content → AreShown r content
+all-shown r k content whole s = record { contents = s.contents; count = s.count ∙ whole; each = s.each; content_is = s.content_is }

@@ -1,16 +1,18 @@
 -- The output of `schedules`.
-use Rattle.std.specs.Prelude.{◌≡◌, ◌⊎◌, ◌≤◌, ⊤, ℕ, false, List, [], ◌∷◌, ◌++◌, codes, length, Option, None, Some, All}
+use Rattle.std.specs.Prelude.{◌≡◌, ◌⊎◌, ◌≤◌, ⊤, ℕ, Bool, true, false, List, [], ◌∷◌, ◌++◌, codes, length, Option, None, Some, All}
 use Rattle.std.specs.List.{flat_map}
 use Rattle.std.specs.Io.KnownBytes.{Appends, Keeps}
 use Rattle.ring_machine.specs.Queues.{AreQueues}
 use Rattle.refusals.specs.declared.errors.MachineError.TheVariants.{RingLength, Memory as NoQueues}
 use Rattle.ring_machine.specs.text.Moves.{text_of}
-use Rattle.commands.specs.Replay.{HasPage, RefusesReplay}
+use Rattle.commands.specs.Page.{page_of}
+use Rattle.commands.specs.Replay.{HasPage, RefusesReplay, is_page}
 use Rattle.commands.specs.declared.answering.TheConstants.{DONE, REFUSED}
 use Rattle.commands.specs.declared.refusal.Refusal.{Refusal}
 use Rattle.commands.specs.declared.refusal.Refusal.TheVariants as refusal
 use Rattle.commands.specs.declared.replay.QueuePlan.{QueuePlan}
 use Rattle.commands.specs.declared.replay.Shown.{Shown}
+use Rattle.commands.specs.declared.replay.TheConstants.{PAGE_DATA}
 use Rattle.schedules.specs.Drawing.{IsDrawn}
 use Rattle.schedules.specs.declared.drawing.Drawn.{Drawn}
 use Rattle.schedule_command.specs.declared.request.ScheduleRequest.{ScheduleRequest}
@@ -56,11 +58,43 @@ abbrev pub joined : List (List ℕ) → List ℕ
 joined texts = flat_map (λ t. t) texts
 
 -- The requested number of lists is printed, and nothing else.
-pub record Prints (r : ScheduleRequest) (old new : Option (List ℕ)) : Type 0 where
+pub record PrintsLists (r : ScheduleRequest) (old new : Option (List ℕ)) : Type 0 where
   pub texts : List (List ℕ)
   pub count : length texts ≡ r.count
   pub each : All (IsPrinted r) texts
   pub appends : Appends old new (joined texts)
+
+-- The data of a list drawn as requested, in a page.
+pub record IsShown (r : ScheduleRequest) (content : List ℕ) : Type 0 where
+  pub list : List Drawn
+  pub drawn : IsDrawn r.plan list
+  pub has : HasPage (queues_of r PAGE_DATA) (list_text list) content
+
+-- The data of the requested number of lists.
+pub record AreShown (r : ScheduleRequest) (content : List ℕ) : Type 0 where
+  pub contents : List (List ℕ)
+  pub count : length contents ≡ r.count
+  pub each : All (IsShown r) contents
+  pub content_is : content ≡ joined contents
+
+-- A page with the requested number of lists is printed, and nothing else.
+pub record PrintsPage (r : ScheduleRequest) (old new : Option (List ℕ)) : Type 0 where
+  pub content : List ℕ
+  pub shown : AreShown r content
+  pub appends : Appends old new (page_of content)
+
+-- Whether the lists are shown as a page.
+abbrev pub shows_page : Option Shown → Bool
+shows_page None = false
+shows_page (Some form) = is_page form.pictures
+
+abbrev pub PrintsBy : Bool → ScheduleRequest → Option (List ℕ) → Option (List ℕ) → Type 0
+PrintsBy false = PrintsLists
+PrintsBy true = PrintsPage
+
+-- The requested lists are printed, or shown as a page.
+abbrev pub Prints : ScheduleRequest → Option (List ℕ) → Option (List ℕ) → Type 0
+Prints r old new = PrintsBy (shows_page r.expect) r old new
 
 -- Fewer lists are printed, since one cannot be made or the output fails.
 abbrev pub Refuses : ScheduleRequest → Refusal → Type 0

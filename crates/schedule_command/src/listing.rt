@@ -2,10 +2,10 @@
 ghost use Rattle.std.specs.Prelude.{◌≡◌, IfErr, IfOk, IsErr};
 ghost use Rattle.std.specs.String.{string_bytes};
 ghost use Rattle.ring_machine.specs.Queues.{AreQueues};
-ghost use Rattle.schedule_command.specs.Lists.{IsPrinted, NotPrinted, list_text, queues_of};
+ghost use Rattle.schedule_command.specs.Lists.{IsPrinted, IsShown, NotPrinted, list_text, queues_of};
 
 use crate::request::ScheduleRequest;
-use commands::{QueuePlan, Refusal, Shown, replay_text};
+use commands::{PAGE_DATA, QueuePlan, Refusal, Shown, replay_text};
 use schedules::{Drawn, draw};
 use std::alloc::{AllocError, Global};
 
@@ -33,6 +33,27 @@ fn text_of(alloc: Global, drawn: &[Drawn]) -> Result<String, AllocError>
     }
     text.push_str("# end\n")?;
     Ok(text)
+}
+
+/// The data of list `number` in a page.
+pub(crate) fn content_of(
+    alloc: Global,
+    request: &ScheduleRequest,
+    number: u32,
+) -> Result<String, Refusal>
+    ensures done { IfOk result (λ content. IsShown request.now (string_bytes content)) }
+    ensures refused { IfErr result (NotPrinted request.now) }
+    ensures no_queues { ¬ (AreQueues request.now.plan.pairs request.now.plan.ring) → IsErr result }
+{
+    let drawn = draw(
+        alloc,
+        &request.plan,
+        u64::from(request.seed),
+        u64::from(number),
+    )?;
+    let text = text_of(alloc, drawn.as_slice())?;
+    let queues = queues_of(request, PAGE_DATA);
+    replay_text(alloc, queues, &mut text.as_bytes())
 }
 
 /// The printed text of list `number`.

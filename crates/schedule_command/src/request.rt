@@ -9,6 +9,22 @@ pub struct ScheduleRequest {
     pub plan: SchedulePlan,
     pub seed: u32,
     pub count: u32,
-    /// The form in which `replay` prints the outcome after each list; `None` for nothing.
+    /// The form in which `replay` prints the outcome after each list; `None` for nothing. `PAGE` is a page with all
+    /// lists.
     pub expect: Option<Shown>,
+}
+
+impl ScheduleRequest {
+    ghost use Rattle.std.specs.Prelude.{◌≡◌};
+    ghost use Rattle.schedule_command.specs.Lists.{shows_page};
+
+    /// Whether the lists are shown as a page.
+    pub fn shows_page(&self) -> bool
+        ensures { result ≡ shows_page self.now.expect }
+    {
+        match self.expect {
+            Some(shown) => shown.pictures.is_page(),
+            None => false,
+        }
+    }
 }

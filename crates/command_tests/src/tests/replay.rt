@@ -4,6 +4,7 @@ mod drawn;
 mod fresh;
 mod lists;
 mod objects;
+mod paged;
 mod registers;
 mod replay_tests;
 mod transcripts;

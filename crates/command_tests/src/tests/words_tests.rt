@@ -40,6 +40,12 @@ const NOT_EXPECTED: &str = "--json and --registers need --expect";
 /// The error for a malformed `--picture`, or for `--picture` together with `--json`.
 const NOT_SHOWN: &str = "--picture takes no value, or each or last";
 
+/// The error for `--page` together with another form of the output.
+const NOT_ONE_FORM: &str = "--page cannot be combined with --json, --registers or --picture";
+
+/// The error for `--page` together with the forms of `schedules`.
+const NOT_IN_PAGE: &str = "--page cannot be combined with --expect, --json, --registers or --cover";
+
 /// Words that ask for help, and an example that it must contain.
 const HELPED: &[(&[&str], &str)] = &[
     (&["--help"], ONCE),
@@ -96,6 +102,14 @@ const WRONG: &[(&[&str], &str)] = &[
     (&["replay", "--json", "--picture"], NOT_SHOWN),
     (&["replay", "--picture=last", "--json"], NOT_SHOWN),
     (&["replay", "--picture", "--picture"], "--picture"),
+    (&["replay", "--page", "--json"], NOT_ONE_FORM),
+    (&["replay", "--registers", "--page"], NOT_ONE_FORM),
+    (&["replay", "--page", "--picture=last"], NOT_ONE_FORM),
+    (
+        &["schedules", "--recommended", "--page", "--expect"],
+        NOT_IN_PAGE,
+    ),
+    (&["schedules", "--cover", "--page"], NOT_IN_PAGE),
     (&["schedules"], "--seed"),
     (&["schedules", "--seed", "1"], "--moves"),
     (&["schedules", "--moves", "1"], "--seed"),

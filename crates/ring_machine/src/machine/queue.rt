@@ -112,8 +112,15 @@ impl QueueMachine {
         }
     }
 
+    /// Returns the number of the buffer that the controller holds, or `None`.
+    pub fn held(&self) -> Option<u16>
+        ensures { result ≡ self.now.held }
+    {
+        self.held
+    }
+
     /// Whether the last served segment ends a frame, or nothing was served.
-    pub(crate) fn is_whole(&self) -> bool
+    pub fn is_whole(&self) -> bool
         ensures { result ≡ self.now.whole }
     {
         self.whole

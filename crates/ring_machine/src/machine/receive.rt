@@ -8,11 +8,14 @@ ghost use Rattle.ring_model.specs.receive.Ring.{rx_opening};
 ghost use Rattle.refusals.specs.declared.errors.MachineError.TheVariants.{Memory, NotEnabled, RingLength};
 ghost use Rattle.ring_machine.specs.code.Sound.{IsSound};
 ghost use Rattle.ring_machine.specs.receive.Machine.{RxAgrees, RxFollows, RxOwns, RxRuns};
+ghost use Rattle.ring_machine.specs.code.Obstacles.{rx_obstacle};
 ghost use Rattle.ring_machine.specs.code.Receive.{rx_may, rx_moved, rx_told};
 
 use crate::counting::count_of;
+use crate::machine::hindering::{needs, unless};
 use crate::machine::queue::QueueMachine;
 use crate::moves::arguments::SegmentLength;
+use crate::obstacle::Obstacle;
 use refusals::MachineError;
 use ring_model::{ControlStep, Note, Owner, RxStep, TakenSegment};
 use std::alloc::Global;
@@ -206,6 +209,54 @@ impl RxMachine {
         ensures { RxOwns self.now place result }
     {
         self.queue.owner(place)
+    }
+
+    /// Returns the quiet word.
+    pub fn quiet(&self) -> u8
+        ensures { result ≡ self.now.quiet }
+    {
+        self.quiet
+    }
+
+    /// Whether the controller said in this epoch that it stores no more frames.
+    pub fn is_still(&self) -> bool
+        ensures { result ≡ self.now.still }
+    {
+        self.still
+    }
+
+    /// Returns the first condition of a step that does not hold, or `None` if the queue can make the step.
+    pub fn obstacle(&self, step: &RxStep<SegmentLength>) -> Option<Obstacle>
+        ensures { result ≡ rx_obstacle self.now step.now }
+    {
+        let (queue, handshake) = (&self.queue, self.queue.handshake());
+        let (driver, controller) = (handshake.driver, handshake.controller);
+        match step {
+            RxStep::Post(_) => queue.post_obstacle(),
+            RxStep::Publish => needs(driver.is_open(), Obstacle::NotOpen),
+            RxStep::Look => needs(controller.is_serving(), Obstacle::NotServing),
+            RxStep::Fetch => queue.fetch_obstacle(needs(!self.still, Obstacle::Quiet)),
+            RxStep::Store(_, _) => needs(queue.is_holding(), Obstacle::NotHolding),
+            RxStep::Take => unless(driver.is_live(), Obstacle::NotLive, queue.out_obstacle()),
+            RxStep::Head => queue.idle_obstacle(None),
+            RxStep::Control(control) => queue.shake_obstacle(*control, None),
+            RxStep::Reclaim => unless(
+                driver.is_stopped(),
+                Obstacle::NotStopped,
+                queue.out_obstacle(),
+            ),
+            RxStep::StoreQuiet => {
+                queue.idle_obstacle(needs(queue.is_whole(), Obstacle::MidFrame))
+            }
+            RxStep::LoadQuiet => None,
+            RxStep::ClearHead => unless(
+                driver.is_stopped(),
+                Obstacle::NotStopped,
+                needs(queue.are_all_back(), Obstacle::SomeOut),
+            ),
+            RxStep::ClearTail => needs(driver.is_cleared(), Obstacle::NotCleared),
+            RxStep::ClearQuiet => needs(driver.is_tailed(), Obstacle::NotTailed),
+        }
     }
 
     /// Makes each step that the queue can make at its turn, skips the others, and returns the number of steps made.

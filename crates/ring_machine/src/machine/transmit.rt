@@ -8,12 +8,15 @@ ghost use Rattle.ring_model.specs.transmit.Ring.{tx_opening};
 ghost use Rattle.refusals.specs.declared.errors.MachineError.TheVariants.{Memory, NotEnabled, RingLength};
 ghost use Rattle.ring_machine.specs.transmit.Machine.{TxAgrees, TxFollows, TxOwns, TxRuns};
 ghost use Rattle.ring_machine.specs.code.TxSound.{IsTxSound, StepFits};
+ghost use Rattle.ring_machine.specs.code.Obstacles.{tx_obstacle};
 ghost use Rattle.ring_machine.specs.code.Transmit.{is_made, oldest_place, tx_after_renew, tx_may, tx_moved, tx_told};
 
 use crate::counting::count_of;
+use crate::machine::hindering::{needs, unless};
 use crate::machine::queue::QueueMachine;
 use crate::machine::words::{DONE, eop_in, first_asking, len_in, place_before, rs_in};
 use crate::moves::arguments::SegmentDescriptor;
+use crate::obstacle::Obstacle;
 use refusals::MachineError;
 use ring_model::{
     Completion, ControlStep, FetchedSegment, Note, Owner, TxStep, place_after, places_between,
@@ -271,6 +274,87 @@ impl TxMachine {
             TxStep::ClearHead => Ok(self.clear_head()),
             TxStep::ClearTail => Ok(self.clear_tail()),
             TxStep::ClearReport => Ok(self.clear_report()),
+        }
+    }
+
+    /// Returns how the queue reports.
+    pub fn completion(&self) -> Completion
+        ensures { result ≡ self.now.completion }
+    {
+        self.completion
+    }
+
+    /// Returns the head word, which a queue that reports by it stores.
+    pub fn report_word(&self) -> u16
+        ensures { result ≡ self.now.report }
+    {
+        self.report
+    }
+
+    /// Returns the place after the last report that the driver has seen.
+    pub fn seen_place(&self) -> u16
+        ensures { result ≡ self.now.rep }
+    {
+        self.rep
+    }
+
+    /// Whether the last posted segment ends a frame, or nothing was posted in this epoch.
+    pub fn is_posted_whole(&self) -> bool
+        ensures { result ≡ self.now.ends }
+    {
+        self.ends
+    }
+
+    /// Whether a report is due.
+    pub fn is_report_due(&self) -> bool
+        ensures { result ≡ self.now.owed }
+    {
+        self.owed
+    }
+
+    /// Returns the first condition of a step that does not hold, or `None` if the queue can make the step.
+    pub fn obstacle(&self, step: &TxStep<SegmentDescriptor>) -> Option<Obstacle>
+        ensures { result ≡ tx_obstacle self.now step.now }
+    {
+        let (queue, handshake) = (&self.queue, self.queue.handshake());
+        let (driver, controller) = (handshake.driver, handshake.controller);
+        let reported = needs(!self.owed, Obstacle::ReportDue);
+        match step {
+            TxStep::Post(_) => queue.post_obstacle(),
+            TxStep::Publish => unless(
+                driver.is_open(),
+                Obstacle::NotOpen,
+                needs(self.ends, Obstacle::PostedPart),
+            ),
+            TxStep::Look => needs(controller.is_serving(), Obstacle::NotServing),
+            TxStep::Fetch => queue.fetch_obstacle(reported),
+            TxStep::Send => needs(queue.is_holding(), Obstacle::NotHolding),
+            TxStep::Report => needs(self.owed, Obstacle::NoReportDue),
+            TxStep::LoadReport => {
+                let awaited = needs(self.oldest_report().is_some(), Obstacle::NoReportAwaited);
+                unless(driver.is_live(), Obstacle::NotLive, awaited)
+            }
+            TxStep::Clean => {
+                let cleaned = needs(queue.next() != self.rep, Obstacle::NotReported);
+                unless(driver.is_live(), Obstacle::NotLive, cleaned)
+            }
+            TxStep::Control(control) => queue.shake_obstacle(*control, reported),
+            TxStep::Reclaim => unless(
+                driver.is_stopped(),
+                Obstacle::NotStopped,
+                queue.out_obstacle(),
+            ),
+            TxStep::ClearHead => unless(
+                driver.is_stopped(),
+                Obstacle::NotStopped,
+                needs(queue.are_all_back(), Obstacle::SomeOut),
+            ),
+            TxStep::ClearTail => needs(driver.is_cleared(), Obstacle::NotCleared),
+            TxStep::ClearReport => unless(
+                self.completion.is_by_head(),
+                Obstacle::NoHeadWord,
+                needs(driver.is_tailed(), Obstacle::NotTailed),
+            ),
         }
     }
 

@@ -1,29 +1,31 @@
--- The flags tell what is expected.
-use Rattle.std.proofs.Common.{◌≡◌, ◌∙◌, ap, sym, refl, Bool, true, false, Option, Some, None}
-use Rattle.commands.specs.declared.replay.Pictures.TheVariants.{Never}
+-- The four flags tell what is expected.
+use Rattle.std.proofs.Common.{◌≡◌, ◌∙◌, refl, Bool, true, false, ◌&&◌, Option, Some, None}
+use Rattle.std.specs.Prelude.{is_some, not}
+use Rattle.commands.specs.Replay.{is_page}
+use Rattle.commands.specs.declared.replay.Pictures.{Pictures}
+use Rattle.commands.specs.declared.replay.Pictures.TheVariants.{Never, Each, Last, States, Page}
 use Rattle.commands.specs.declared.replay.Shown.{Shown}
-use Rattle.std.specs.Prelude.{is_some}
-use Rattle.command_line.specs.ScheduleWords.{IsUndrawn, expects_json, expects_registers}
+use Rattle.schedule_command.specs.Lists.{shows_page}
+use Rattle.command_line.specs.ScheduleWords.{IsExpected, IsExpectedBy, expect_of, expects_json, expects_registers, says_expect}
 use Rattle.command_line.proofs.expects.expect_in.Goals as goal
 
-stands-as : (expect : Option Shown) (s j r : Bool) → s ≡ is_some expect → j ≡ expects_json expect → r ≡ expects_registers expect → IsUndrawn expect → s ≡ true
-    → ◌≡◌ {A = Option (Option Shown)} (Some (Some (record { json = j; registers = r; pictures = Never }))) (Some expect)
-stands-as None s j r stands json registers undrawn is = let bad : true ≡ false = sym is ∙ stands in cc bad
-stands-as (Some form) s j r stands json registers undrawn is = ap (λ (f : Shown). Some (Some f)) (rw (json, registers, sym undrawn) refl)
+expected : (p : Pictures) (j r : Bool) → IsExpectedBy p j r
+    → ◌≡◌ {A = Option (Option Shown)} (expect_of (is_page p) (true && not (is_page p)) (j && not (is_page p)) (r && not (is_page p))) (Some (Some (record { json = j; registers = r; pictures = p })))
+expected Never true true is = refl
+expected Never true false is = refl
+expected Never false true is = refl
+expected Never false false is = refl
+expected Each j r none = absurd none
+expected Last j r none = absurd none
+expected States j r none = absurd none
+expected Page j r (json, registers) = rw (json, registers) refl
 
-stands-not : (expect : Option Shown) (s : Bool) → s ≡ is_some expect → s ≡ false → ◌≡◌ {A = Option (Option Shown)} (Some None) (Some expect)
-stands-not None s stands is = refl
-stands-not (Some form) s stands is = let bad : false ≡ true = sym is ∙ stands in cc bad
+read_as : (e : Option Shown) (page stands json registers : Bool) → page ≡ shows_page e → stands ≡ says_expect e → json ≡ expects_json e → registers ≡ expects_registers e → IsExpected e
+    → ◌≡◌ {A = Option (Option Shown)} (expect_of page stands json registers) (Some e)
+read_as None page stands json registers page_is stands_is json_is registers_is is = rw (page_is, stands_is, json_is, registers_is) refl
+read_as (Some form) page stands json registers page_is stands_is json_is registers_is is = rw (page_is, stands_is, json_is, registers_is) (expected form.pictures form.json form.registers is)
 
-no-json : (expect : Option Shown) (s j : Bool) → s ≡ is_some expect → j ≡ expects_json expect → s ≡ false → j ≡ true → ⊥
-no-json None s j stands json is set = let bad : true ≡ false = sym set ∙ json in cc bad
-no-json (Some form) s j stands json is set = let bad : false ≡ true = sym is ∙ stands in cc bad
-
-no-registers : (expect : Option Shown) (s r : Bool) → s ≡ is_some expect → r ≡ expects_registers expect → s ≡ false → r ≡ true → ⊥
-no-registers None s r stands registers is set = let bad : true ≡ false = sym set ∙ registers in cc bad
-no-registers (Some form) s r stands registers is set = let bad : false ≡ true = sym is ∙ stands in cc bad
-
-pub returns-then-flag_in : goal.returns-then-flag_in
-returns-then-flag_in c expect has =
-    stands-as expect _ _ _ (c.flag_in.ensures (is_some expect) has.stands) (c.flag_in-json.ensures (expects_json expect) has.json)
-    (c.flag_in-registers.ensures (expects_registers expect) has.registers) has.undrawn c.if-flag_in.true
+pub returns : goal.returns
+returns c expect has =
+    c.expect_of.ensures ∙ read_as expect _ _ _ _ (c.flag_in-page.ensures (shows_page expect) has.page) (c.flag_in-stands.ensures (says_expect expect) has.stands)
+    (c.flag_in-json.ensures (expects_json expect) has.json) (c.flag_in-registers.ensures (expects_registers expect) has.registers) has.expected

@@ -1,8 +1,16 @@
--- The page is that of the plan's queues as they are made.
+-- A page has the data between its two constant parts.
+use Rattle.std.proofs.Common.{◌∙◌, Bool, ap}
 use Rattle.std.specs.String.{string_bytes}
-use Rattle.commands.proofs.Replaying.{has-page}
+use Rattle.commands.specs.Page.{page_of}
+use Rattle.commands.specs.Replay.{framed}
 use Rattle.commands.proofs.replay.page_for.Goals as goal
 
-pub returns-clause-done : goal.returns-clause-done
-returns-clause-done c = has-page c.args.plan c.args.text.now (string_bytes c.in_ok-page_of.field-0) c.in_ok-queues.queues c.if-plan.false
-    (λ no. let bad = c.in_ok-queues.ensures.refused.1 no in let never : ⊥ = cc bad in never) c.in_ok-queues.ensures.made c.in_ok-page_of.ensures
+pub returns-in_ok-page_with-clause-done : goal.returns-in_ok-page_with-clause-done
+returns-in_ok-page_with-clause-done c =
+    let content = string_bytes c.in_ok-content.content in
+    record {
+      content = content;
+      has = c.in_ok-content.ensures.done;
+      page_is = c.in_ok-page_with.ensures ∙ ap page_of c.as_str.ensures.value
+          ∙ ap (λ (b : Bool). framed b content) c.if-is_page.ensures;
+    }

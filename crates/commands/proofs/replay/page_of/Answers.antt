@@ -9,7 +9,7 @@ use Rattle.commands.proofs.Replaying.{PageSoFar, one-at_most, page-first, page-l
 use Rattle.commands.proofs.replay.page_of.Goals as goal
 
 pub loop-rest-init : goal.loop-rest-init
-loop-rest-init c = record { page = page-first c.args.shown c.args.text.now (string_bytes c.new-page.result) c.args.queues.now c.new-page.ensures.bytes; few = omega arith; lines = omega arith }
+loop-rest-init c = record { page = page-first c.args.shown c.args.text.now (string_bytes c.in_ok-page.page) c.args.queues.now c.in_ok-page.ensures; few = omega arith; lines = omega arith }
 
 pub loop-rest-preserved-then-not-says_something : goal.loop-rest-preserved-then-not-says_something
 loop-rest-preserved-then-not-says_something c =
@@ -46,4 +46,4 @@ returns c pairs n w reached agrees =
     let l = c.loop-rest in
     let done = subst (λ rest. PageSoFar c.args.shown c.args.text.now (string_bytes l.page) l.made l.read l.last (later_parts 10 rest) c.args.queues.now l.queues) c.in_default.is l.invariant.page in
     page-last c.args.shown w pairs n c.args.text.now (string_bytes l.page) (string_bytes c.draw.new.page) (string_bytes c.write_count.new.page) l.made l.read l.last c.args.queues.now l.queues reached agrees
-    (c.in_ok-draw.ensures ∙ ap (λ o. string_bytes l.page ++ drawn_of l.queues o) c.at_last.ensures) c.in_ok-write_count.ensures done
+    (c.in_ok-draw.ensures ∙ ap (λ o. string_bytes l.page ++ drawn_of c.args.shown.pictures l.queues o) c.at_last.ensures) c.in_ok-write_count.ensures done

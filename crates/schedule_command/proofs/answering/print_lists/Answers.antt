@@ -2,7 +2,7 @@ use Rattle.std.proofs.Common.{ℕ, List, subst}
 use Rattle.std.specs.Io.KnownBytes.{Appends}
 use Rattle.std.specs.String.{string_bytes}
 use Rattle.schedule_command.proofs.Printing.{one-printed}
-use Rattle.schedule_command.proofs.answering.perform.Goals as goal
+use Rattle.schedule_command.proofs.answering.print_lists.Goals as goal
 
 pub loop-number-preserved : goal.loop-number-preserved
 loop-number-preserved g c =

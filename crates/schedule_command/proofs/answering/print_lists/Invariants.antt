@@ -2,7 +2,7 @@
 use Rattle.std.proofs.Common.{◌≤◌}
 use Rattle.ring_machine.specs.Queues.{AreQueues}
 use Rattle.schedule_command.proofs.Printing.{PrintedSoFar}
-use Rattle.schedule_command.proofs.answering.perform.Given as goal
+use Rattle.schedule_command.proofs.answering.print_lists.Given as goal
 
 abbrev pub invariant-loop-number : goal.invariant-loop-number
 invariant-loop-number g l = record {

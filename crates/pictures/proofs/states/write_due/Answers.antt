@@ -1,0 +1,14 @@
+-- The bit is whether a report is due.
+use Rattle.std.proofs.Common.{◌≡◌, ◌∙◌, Bool, true, false, refl, ap, sym}
+use Rattle.std.specs.Int.{from_bool}
+use Rattle.ring_model.specs.shared.Agreement.{bit}
+use Rattle.pictures.proofs.states.write_due.Goals as goal
+
+bit_is : (b : Bool) → bit b ≡ from_bool b
+bit_is true = refl
+bit_is false = refl
+
+pub returns : goal.returns
+returns c =
+    let due : bit c.args.machine.now.owed ≡ c.from-due.result = bit_is c.args.machine.now.owed ∙ sym (c.from-due.ensures ∙ ap from_bool c.is_report_due.ensures) in
+    rw due c.write.ensures.bytes
