@@ -124,6 +124,6 @@ int main(int argc, char **argv)
     if (argc <= 3)
         pthread_join(thread, NULL);
     poll82599_rx_close(&driver, &controller);
-    printf("%.0f ns a frame, %llu wrong\n", took / (double)frames, (unsigned long long)wrong);
+    printf("%.0f ns/frame, %llu wrong\n", took / (double)frames, (unsigned long long)wrong);
     return wrong != 0;
 }
