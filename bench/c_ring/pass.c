@@ -1,5 +1,5 @@
 /* Passes frames through a receive ring and prints the nanoseconds per frame. Two threads share the ring, and the driver's measures
- * wall-clock time. With a third argument one thread makes the steps of both ends, 32 frames of each in turn, and measures its processor
+ * wall-clock time. With a third argument one thread makes the steps of both ends, 32 frames at each end in turn, and measures its processor
  * time, which other work on the machine hardly changes. The ring is the library's, or with -DPLAIN that of ring.c.
  *
  *     pass [FRAMES [BYTES [alone]]] */
@@ -51,7 +51,7 @@ static double now(clockid_t clock)
     return (double)at.tv_sec * 1e9 + (double)at.tv_nsec;
 }
 
-/* Takes up to so many frames, posts a buffer for each, and counts the wrong ones. Returns how many frames it took. */
+/* Takes up to `most` frames, posts a buffer for each, and counts the wrong ones. Returns how many frames it took. */
 static uint64_t take(struct poll82599_rx_driver *driver, uint64_t taken, uint64_t most, uint64_t *wrong)
 {
     uint8_t got[POLL82599_BUFFER_BYTES];
@@ -124,6 +124,6 @@ int main(int argc, char **argv)
     if (argc <= 3)
         pthread_join(thread, NULL);
     poll82599_rx_close(&driver, &controller);
-    printf("%.0f ns a frame, %llu wrong\n", took / (double)frames, (unsigned long long)wrong);
+    printf("%.0f ns/frame, %llu wrong\n", took / (double)frames, (unsigned long long)wrong);
     return wrong != 0;
 }

@@ -27,7 +27,7 @@ struct c_driver {
 struct c_controller {
     struct ring *ring;
     uint32_t size, serve, ahead, serving;
-    /* the frame that is begun: its segments and bytes so far */
+    /* the unfinished frame: its segments and bytes so far */
     uint32_t segments, bytes;
 };
 
@@ -128,7 +128,7 @@ uint32_t poll82599_rx_answer(struct poll82599_rx_controller *controller)
     return 1;
 }
 
-/* Whether `len` more bytes may follow in the frame that is begun, and may end it if `eop` is set. */
+/* Whether `len` more bytes may follow in the unfinished frame, and may end it if `eop` is set. */
 static int may_follow(const struct c_controller *c, size_t len, uint32_t eop)
 {
     if (len == 0 || len > POLL82599_BUFFER_BYTES)

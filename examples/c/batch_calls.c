@@ -1,5 +1,5 @@
-/* Makes each call of the batch interface on one thread, and brings about nearly every result that it can return. Prints a line for each
- * check, and exits with status 1 if one is wrong. */
+/* Makes each call of the batch interface on one thread, and causes nearly every result that it can return. Prints a line for each check,
+ * and exits with status 1 if one fails. */
 #include <poll82599.h>
 
 #include <stdio.h>
@@ -7,9 +7,9 @@
 
 static int wrong;
 
-static void is(const char *what, long long got, long long wanted)
+static void expect(const char *what, long long got, long long wanted)
 {
-    printf("%s: %lld%s\n", what, got, got == wanted ? ", as it should be" : ", WRONG");
+    printf("%s: %s: %lld\n", got == wanted ? "ok" : "WRONG", what, got);
     wrong += got != wanted;
 }
 
@@ -22,153 +22,153 @@ static uint8_t frame[POLL82599_MOST_FRAME + 1], got[POLL82599_MOST_FRAME];
 static size_t count, len, empty;
 static uint8_t byte;
 
-/* Calls with empty handles, before anything is made and after everything is closed. */
-static void hold_nothing(void)
+/* Calls with empty handles, at the start and after everything is closed. */
+static void use_empty_handles(void)
 {
-    is("a packet for nobody", poll82599_packets_put(&packets, frame, 60), POLL82599_NO_END);
-    is("nobody's packets", poll82599_packets_count(&packets, NULL) == SIZE_MAX, 1);
-    is("a batch of nothing", poll82599_rx_batch(&rx, &packets, &count), POLL82599_NO_END);
-    is("an enabling of nothing", poll82599_rx_queue_enable(&rx), POLL82599_NO_END);
-    is("an offer to nothing", poll82599_offer(&rx_device, frame, 60), POLL82599_NO_END);
-    is("a batch for nothing", poll82599_tx_batch(&tx, &packets, &count), POLL82599_NO_END);
-    is("a renewal of nothing", poll82599_tx_queue_renew(&tx), POLL82599_NO_END);
-    is("a turn of nothing", poll82599_turn(&tx_device, got, sizeof got, &len), POLL82599_NO_END);
-    is("a closing of nothing", poll82599_rx_queue_close(&rx, &rx_device), POLL82599_NOT_CLOSED);
-    is("another", poll82599_tx_queue_close(&tx, &tx_device), POLL82599_NOT_CLOSED);
-    is("nobody's packets back", poll82599_packets_close(&packets) == SIZE_MAX, 1);
+    expect("put a packet, empty packets", poll82599_packets_put(&packets, frame, 60), POLL82599_NO_END);
+    expect("count, empty packets", poll82599_packets_count(&packets, NULL) == SIZE_MAX, 1);
+    expect("receive a batch, empty queue", poll82599_rx_batch(&rx, &packets, &count), POLL82599_NO_END);
+    expect("enable, empty receive queue", poll82599_rx_queue_enable(&rx), POLL82599_NO_END);
+    expect("offer, empty device", poll82599_offer(&rx_device, frame, 60), POLL82599_NO_END);
+    expect("post a batch, empty queue", poll82599_tx_batch(&tx, &packets, &count), POLL82599_NO_END);
+    expect("renew, empty transmit queue", poll82599_tx_queue_renew(&tx), POLL82599_NO_END);
+    expect("turn, empty device", poll82599_turn(&tx_device, got, sizeof got, &len), POLL82599_NO_END);
+    expect("close an empty receive queue", poll82599_rx_queue_close(&rx, &rx_device), POLL82599_NOT_CLOSED);
+    expect("close an empty transmit queue", poll82599_tx_queue_close(&tx, &tx_device), POLL82599_NOT_CLOSED);
+    expect("close empty packets", poll82599_packets_close(&packets) == SIZE_MAX, 1);
 }
 
 /* Calls with handles of the wrong kind, by a cast, and with one full and one empty handle. */
-static void mix(void)
+static void mix_handles(void)
 {
     struct poll82599_packets none = {0};
-    is("a receive queue with an empty worker", poll82599_rx_batch(&rx, &none, &count), POLL82599_NO_END);
-    is("a transmit device cast to a receive device", poll82599_offer((struct poll82599_rx_device *)&tx_device, frame, 60), POLL82599_NO_END);
-    is("a closing of a receive queue with it", poll82599_rx_queue_close(&rx, (struct poll82599_rx_device *)&tx_device), POLL82599_NOT_CLOSED);
-    is("a closing of it cast to packets", poll82599_packets_close((struct poll82599_packets *)&tx_device) == SIZE_MAX, 1);
+    expect("receive a batch into empty packets", poll82599_rx_batch(&rx, &none, &count), POLL82599_NO_END);
+    expect("offer, transmit device cast to a receive device", poll82599_offer((struct poll82599_rx_device *)&tx_device, frame, 60), POLL82599_NO_END);
+    expect("close a receive queue with a transmit device", poll82599_rx_queue_close(&rx, (struct poll82599_rx_device *)&tx_device), POLL82599_NOT_CLOSED);
+    expect("close a transmit device cast to packets", poll82599_packets_close((struct poll82599_packets *)&tx_device) == SIZE_MAX, 1);
 }
 
 static void make(void)
 {
-    is("15 buffers", poll82599_packets_new(15, &packets), 3);
-    is("16 buffers", poll82599_packets_new(16, &packets), 0);
-    is("a receive queue of 7", poll82599_rx_queue_new(7, 32, 1024, 0, &rx, &rx_device), 1);
-    is("batches of 33", poll82599_rx_queue_new(8, 33, 1024, 0, &rx, &rx_device), 4);
-    is("buffers filled to 512 bytes", poll82599_rx_queue_new(8, 32, 512, 0, &rx, &rx_device), 4);
-    is("a receive queue of 8", poll82599_rx_queue_new(8, 2, 1024, 0, &rx, &rx_device), 0);
-    is("no frame asks for a report", poll82599_tx_queue_new(8, 0, 0, &tx, &tx_device), 4);
-    is("a transmit queue of 8", poll82599_tx_queue_new(8, 32, 1, &tx, &tx_device), 0);
+    expect("make packets of 15 buffers", poll82599_packets_new(15, &packets), 3);
+    expect("make packets of 16 buffers", poll82599_packets_new(16, &packets), 0);
+    expect("make a receive queue of 7 descriptors", poll82599_rx_queue_new(7, 32, 1024, 0, &rx, &rx_device), 1);
+    expect("make a receive queue with batches of 33", poll82599_rx_queue_new(8, 33, 1024, 0, &rx, &rx_device), 4);
+    expect("make a receive queue with buffers filled to 512 bytes", poll82599_rx_queue_new(8, 32, 512, 0, &rx, &rx_device), 4);
+    expect("make a receive queue of 8 descriptors", poll82599_rx_queue_new(8, 2, 1024, 0, &rx, &rx_device), 0);
+    expect("make a transmit queue without reports", poll82599_tx_queue_new(8, 0, 0, &tx, &tx_device), 4);
+    expect("make a transmit queue of 8 descriptors", poll82599_tx_queue_new(8, 32, 1, &tx, &tx_device), 0);
 }
 
-static void hold(void)
+static void hold_packets(void)
 {
-    is("a packet of 13 bytes", poll82599_packets_put(&packets, frame, 13), 2);
-    is("a packet of 15,001 bytes", poll82599_packets_put(&packets, frame, sizeof frame), 2);
-    is("a packet of 5,000 bytes", poll82599_packets_put(&packets, frame, 5000), 1);
-    is("packets", (long long)poll82599_packets_count(&packets, &empty), 1);
-    is("empty buffers", (long long)empty, 13);
-    is("byte 4999", poll82599_packet_byte(&packets, 0, 4999, &byte), 1);
-    is("is", byte, frame[4999]);
-    is("byte 4999 replaced", poll82599_packet_touch(&packets, 0, 4999, (uint8_t)(byte + 1)), 1);
-    is("byte 5000", poll82599_packet_touch(&packets, 0, 5000, 0), 0);
-    is("a byte of packet 1", poll82599_packet_byte(&packets, 1, 0, &byte), 0);
-    is("copied into 4,999 bytes", poll82599_packet_copy(&packets, 0, got, 4999, &len), 4);
-    is("copied", poll82599_packet_copy(&packets, 0, got, sizeof got, &len), 1);
+    expect("put a packet of 13 bytes", poll82599_packets_put(&packets, frame, 13), 2);
+    expect("put a packet of 15,001 bytes", poll82599_packets_put(&packets, frame, sizeof frame), 2);
+    expect("put a packet of 5,000 bytes", poll82599_packets_put(&packets, frame, 5000), 1);
+    expect("number of packets", (long long)poll82599_packets_count(&packets, &empty), 1);
+    expect("empty buffers", (long long)empty, 13);
+    expect("read byte 4,999", poll82599_packet_byte(&packets, 0, 4999, &byte), 1);
+    expect("value of byte 4,999", byte, frame[4999]);
+    expect("write byte 4,999", poll82599_packet_touch(&packets, 0, 4999, (uint8_t)(byte + 1)), 1);
+    expect("write byte 5,000", poll82599_packet_touch(&packets, 0, 5000, 0), 0);
+    expect("read a byte of packet 1", poll82599_packet_byte(&packets, 1, 0, &byte), 0);
+    expect("copy into 4,999 bytes", poll82599_packet_copy(&packets, 0, got, 4999, &len), 4);
+    expect("copy", poll82599_packet_copy(&packets, 0, got, sizeof got, &len), 1);
     frame[4999]++;
-    is("bytes", (long long)len, 5000);
-    is("other bytes than were put and replaced", memcmp(got, frame, 5000) != 0, 0);
-    is("packet 1 copied", poll82599_packet_copy(&packets, 1, got, sizeof got, &len), 0);
-    is("packet 1 freed", poll82599_packet_free(&packets, 1), 0);
-    is("one more of 60 bytes", poll82599_packets_put(&packets, frame, 60), 1);
-    is("packet 1 freed", poll82599_packet_free(&packets, 1), 1);
-    is("empty buffers", (long long)(poll82599_packets_count(&packets, &empty), empty), 13);
+    expect("bytes copied", (long long)len, 5000);
+    expect("the bytes differ", memcmp(got, frame, 5000) != 0, 0);
+    expect("copy packet 1", poll82599_packet_copy(&packets, 1, got, sizeof got, &len), 0);
+    expect("free packet 1", poll82599_packet_free(&packets, 1), 0);
+    expect("put a packet of 60 bytes", poll82599_packets_put(&packets, frame, 60), 1);
+    expect("free packet 1", poll82599_packet_free(&packets, 1), 1);
+    expect("empty buffers", (long long)(poll82599_packets_count(&packets, &empty), empty), 13);
 }
 
 static void receive(void)
 {
-    is("a batch of a queue that is off", poll82599_rx_batch(&rx, &packets, &count), 0);
-    is("a disabling of it", poll82599_rx_queue_disable(&rx), 0);
-    is("its buffers", poll82599_rx_queue_reclaim(&rx, &packets, &count), 2);
-    is("an offer to it", poll82599_offer(&rx_device, frame, 60), 3);
-    is("an enabling asked", poll82599_rx_queue_enable(&rx), 0);
-    is("answered", poll82599_rx_device_control(&rx_device), POLL82599_ON);
-    is("and seen", poll82599_rx_queue_enable(&rx), 1);
-    is("an offer with no buffer posted", poll82599_offer(&rx_device, frame, 60), 0);
-    is("a batch", poll82599_rx_batch(&rx, &packets, &count), 1);
-    is("of packets", (long long)count, 0);
-    is("an offer of 13 bytes", poll82599_offer(&rx_device, frame, 13), 2);
-    is("an offer of 8,000 bytes in pieces of 1,024", poll82599_offer(&rx_device, frame, 8000), 4);
-    is("an offer of 3,000", poll82599_offer(&rx_device, frame, 3000), 1);
-    is("the device is done", poll82599_rx_device_finish(&rx_device), 1);
-    is("done again", poll82599_rx_device_finish(&rx_device), 0);
-    is("quiet", poll82599_rx_queue_is_quiet(&rx), 1);
-    is("a batch", poll82599_rx_batch(&rx, &packets, &count), 1);
-    is("of packets", (long long)count, 1);
-    is("copied", poll82599_packet_copy(&packets, 1, got, sizeof got, &len), 1);
-    is("other bytes than were offered", len != 3000 || memcmp(got, frame, 3000) != 0, 0);
-    struct poll82599_offered told = poll82599_rx_device_counts(&rx_device);
-    is("offered", (long long)told.offered, 2);
-    is("stored", (long long)told.stored, 1);
-    is("oversize", (long long)told.oversize, 1);
+    expect("batch, disabled queue", poll82599_rx_batch(&rx, &packets, &count), 0);
+    expect("disable, disabled queue", poll82599_rx_queue_disable(&rx), 0);
+    expect("reclaim, disabled queue", poll82599_rx_queue_reclaim(&rx, &packets, &count), 2);
+    expect("offer, disabled queue", poll82599_offer(&rx_device, frame, 60), 3);
+    expect("ask for the queue to be enabled", poll82599_rx_queue_enable(&rx), 0);
+    expect("the device answers", poll82599_rx_device_control(&rx_device), POLL82599_ON);
+    expect("the driver sees the answer", poll82599_rx_queue_enable(&rx), 1);
+    expect("offer, no buffer posted", poll82599_offer(&rx_device, frame, 60), 0);
+    expect("batch", poll82599_rx_batch(&rx, &packets, &count), 1);
+    expect("packets of the batch", (long long)count, 0);
+    expect("offer 13 bytes", poll82599_offer(&rx_device, frame, 13), 2);
+    expect("offer 8,000 bytes, 8 descriptors of 1,024", poll82599_offer(&rx_device, frame, 8000), 4);
+    expect("offer 3,000 bytes", poll82599_offer(&rx_device, frame, 3000), 1);
+    expect("finish", poll82599_rx_device_finish(&rx_device), 1);
+    expect("finish again", poll82599_rx_device_finish(&rx_device), 0);
+    expect("the queue is quiet", poll82599_rx_queue_is_quiet(&rx), 1);
+    expect("batch", poll82599_rx_batch(&rx, &packets, &count), 1);
+    expect("packets of the batch", (long long)count, 1);
+    expect("copy", poll82599_packet_copy(&packets, 1, got, sizeof got, &len), 1);
+    expect("the bytes differ", len != 3000 || memcmp(got, frame, 3000) != 0, 0);
+    struct poll82599_offered counts = poll82599_rx_device_counts(&rx_device);
+    expect("offered", (long long)counts.offered, 2);
+    expect("stored", (long long)counts.stored, 1);
+    expect("oversize", (long long)counts.oversize, 1);
 }
 
 static void transmit(void)
 {
-    is("a batch of a queue that is off", poll82599_tx_batch(&tx, &packets, &count), 0);
-    is("a cleaning of it", poll82599_tx_queue_clean(&tx, &packets, &count), 0);
-    is("a turn of it", poll82599_turn(&tx_device, got, sizeof got, &len), 3);
-    is("an enabling asked", poll82599_tx_queue_enable(&tx), 0);
-    is("answered", poll82599_tx_device_control(&tx_device), POLL82599_ON);
-    is("and seen", poll82599_tx_queue_enable(&tx), 1);
-    is("a turn with nothing posted", poll82599_turn(&tx_device, got, sizeof got, &len), 0);
-    is("a batch", poll82599_tx_batch(&tx, &packets, &count), 1);
-    is("of packets", (long long)count, 2);
-    is("a turn into 14,999 bytes", poll82599_turn(&tx_device, got, sizeof got - 1, &len), 4);
-    is("a turn", poll82599_turn(&tx_device, got, sizeof got, &len), 1);
-    is("other bytes than were posted", len != 5000 || memcmp(got, frame, 5000) != 0, 0);
-    is("a turn", poll82599_turn(&tx_device, got, sizeof got, &len), 1);
-    is("other bytes than were posted", len != 3000 || memcmp(got, frame, 3000) != 0, 0);
-    is("a cleaning", poll82599_tx_queue_clean(&tx, &packets, &count), 1);
-    is("of buffers", (long long)count, 6);
+    expect("batch, disabled queue", poll82599_tx_batch(&tx, &packets, &count), 0);
+    expect("clean, disabled queue", poll82599_tx_queue_clean(&tx, &packets, &count), 0);
+    expect("turn, disabled queue", poll82599_turn(&tx_device, got, sizeof got, &len), 3);
+    expect("ask for the queue to be enabled", poll82599_tx_queue_enable(&tx), 0);
+    expect("the device answers", poll82599_tx_device_control(&tx_device), POLL82599_ON);
+    expect("the driver sees the answer", poll82599_tx_queue_enable(&tx), 1);
+    expect("turn, nothing posted", poll82599_turn(&tx_device, got, sizeof got, &len), 0);
+    expect("batch", poll82599_tx_batch(&tx, &packets, &count), 1);
+    expect("packets of the batch", (long long)count, 2);
+    expect("turn, room of 14,999 bytes", poll82599_turn(&tx_device, got, sizeof got - 1, &len), 4);
+    expect("turn", poll82599_turn(&tx_device, got, sizeof got, &len), 1);
+    expect("the bytes differ", len != 5000 || memcmp(got, frame, 5000) != 0, 0);
+    expect("turn", poll82599_turn(&tx_device, got, sizeof got, &len), 1);
+    expect("the bytes differ", len != 3000 || memcmp(got, frame, 3000) != 0, 0);
+    expect("clean", poll82599_tx_queue_clean(&tx, &packets, &count), 1);
+    expect("buffers cleaned", (long long)count, 6);
 }
 
 static void stop(void)
 {
     size_t left;
-    is("a renewal of a queue that is on", poll82599_rx_queue_renew(&rx), 0);
-    is("a disabling asked", poll82599_rx_queue_disable(&rx), 1);
-    is("not answered", poll82599_rx_queue_finish(&rx, &left), 0);
-    is("answered", poll82599_rx_device_control(&rx_device), POLL82599_OFF);
-    is("seen", poll82599_rx_queue_finish(&rx, &left), 1);
-    is("segments left", (long long)left, 0);
-    is("an enabling before a renewal", poll82599_rx_queue_enable(&rx), 2);
-    is("the buffers", poll82599_rx_queue_reclaim(&rx, &packets, &count), 1);
-    is("a renewal", poll82599_rx_queue_renew(&rx), 1);
-    is("a disabling asked", poll82599_tx_queue_disable(&tx), 1);
-    is("answered", poll82599_tx_device_control(&tx_device), POLL82599_OFF);
-    is("seen", poll82599_tx_queue_finish(&tx, &left), 1);
-    is("segments left", (long long)left, 0);
-    is("the buffers", poll82599_tx_queue_reclaim(&tx, &packets, &count), 1);
-    is("of which were in it", (long long)count, 0);
-    is("a renewal", poll82599_tx_queue_renew(&tx), 1);
-    is("packets", (long long)poll82599_packets_count(&packets, &empty), 0);
-    is("empty buffers", (long long)empty, 16);
-    is("buffers in the closed receive queue", poll82599_rx_queue_close(&rx, &rx_device), 0);
-    is("and the transmit queue", poll82599_tx_queue_close(&tx, &tx_device), 0);
-    is("packets", (long long)poll82599_packets_close(&packets), 0);
+    expect("renew, enabled queue", poll82599_rx_queue_renew(&rx), 0);
+    expect("ask for the queue to be disabled", poll82599_rx_queue_disable(&rx), 1);
+    expect("finish before the answer", poll82599_rx_queue_finish(&rx, &left), 0);
+    expect("the device answers", poll82599_rx_device_control(&rx_device), POLL82599_OFF);
+    expect("finish after the answer", poll82599_rx_queue_finish(&rx, &left), 1);
+    expect("segments left in the queue", (long long)left, 0);
+    expect("enable before renewing", poll82599_rx_queue_enable(&rx), 2);
+    expect("reclaim", poll82599_rx_queue_reclaim(&rx, &packets, &count), 1);
+    expect("renew", poll82599_rx_queue_renew(&rx), 1);
+    expect("ask for the queue to be disabled", poll82599_tx_queue_disable(&tx), 1);
+    expect("the device answers", poll82599_tx_device_control(&tx_device), POLL82599_OFF);
+    expect("finish after the answer", poll82599_tx_queue_finish(&tx, &left), 1);
+    expect("segments left in the queue", (long long)left, 0);
+    expect("reclaim", poll82599_tx_queue_reclaim(&tx, &packets, &count), 1);
+    expect("buffers reclaimed", (long long)count, 0);
+    expect("renew", poll82599_tx_queue_renew(&tx), 1);
+    expect("number of packets", (long long)poll82599_packets_count(&packets, &empty), 0);
+    expect("empty buffers", (long long)empty, 16);
+    expect("close the receive queue; buffers in it", poll82599_rx_queue_close(&rx, &rx_device), 0);
+    expect("close the transmit queue; buffers in it", poll82599_tx_queue_close(&tx, &tx_device), 0);
+    expect("number of packets", (long long)poll82599_packets_close(&packets), 0);
 }
 
 int main(void)
 {
     for (size_t at = 0; at < sizeof frame; at++)
         frame[at] = (uint8_t)(at * 7 + at / 256);
-    hold_nothing();
+    use_empty_handles();
     make();
-    mix();
-    hold();
+    mix_handles();
+    hold_packets();
     receive();
     transmit();
     stop();
-    hold_nothing();
+    use_empty_handles();
     return wrong != 0;
 }

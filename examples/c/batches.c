@@ -1,6 +1,6 @@
-/* A poll-mode forwarder in batches, with the loop of ixy. One thread plays the device that is offered frames. One drives a receive and a
- * transmit queue, and adds 1 to byte 1 of each packet in place. One plays the device that sends the frames, and compares each of them.
- * At the end the driver has both queues disabled and takes all buffers back.
+/* A poll-mode forwarder in batches, with the main loop of ixy. One thread is the receive device, to which frames are offered. One drives a
+ * receive and a transmit queue, and increments byte 1 of each packet in place. One is the transmit device, and compares each frame that it
+ * sends. At the end the driver disables both queues and takes all buffers back.
  *
  *     batches [FRAMES [BYTES [BY_HEAD]]]     14 to 15,000 bytes; the library cuts frames into segments */
 #include <poll82599.h>
@@ -24,7 +24,7 @@ static uint64_t frames = 100000;
 static size_t bytes = 60;
 static size_t back;
 
-/* Makes frame k, as it is offered. */
+/* Makes frame k, as offered. */
 static void fill(uint8_t *frame, uint64_t k)
 {
     for (size_t at = 0; at < bytes; at++)
@@ -164,9 +164,9 @@ int main(int count, char **words)
     clock_gettime(CLOCK_MONOTONIC, &ended);
     struct poll82599_offered counts = poll82599_rx_device_counts(&rx_device);
     printf("%llu frames of %zu bytes, %llu wrong\n", (unsigned long long)counts.stored, bytes, (unsigned long long)(uintptr_t)wrong);
-    printf("segments left: %zu, buffers back from the rings: %zu\n", left, back);
-    printf("closed: %lld, %lld and %zu\n", (long long)poll82599_rx_queue_close(&rx, &rx_device), (long long)poll82599_tx_queue_close(&tx, &tx_device), poll82599_packets_close(&packets));
+    printf("left in the queues: %zu segments; reclaimed: %zu buffers\n", left, back);
+    printf("closed with %lld and %lld buffers in the rings, and %zu packets\n", (long long)poll82599_rx_queue_close(&rx, &rx_device), (long long)poll82599_tx_queue_close(&tx, &tx_device), poll82599_packets_close(&packets));
     double took = (double)(ended.tv_sec - begun.tv_sec) * 1e9 + (double)(ended.tv_nsec - begun.tv_nsec);
-    fprintf(stderr, "%.0f ns a frame\n", frames ? took / (double)frames : 0);
+    fprintf(stderr, "%.0f ns/frame\n", frames ? took / (double)frames : 0);
     return wrong != 0;
 }

@@ -1,5 +1,5 @@
-/* A poll-mode forwarder segment by segment, with the loop of ixy. One thread plays the device that stores frames. One drives a receive
- * and a transmit ring, and adds 1 to byte 1 of each frame. One plays the device that sends the frames, and compares each of them.
+/* A poll-mode forwarder segment by segment, with the main loop of ixy. One thread is the device that stores frames. One drives a receive
+ * and a transmit ring, and increments byte 1 of each frame. One is the device that sends the frames, and compares each of them.
  *
  *     forward [FRAMES [BYTES [BY_HEAD]]] */
 #include <poll82599.h>
@@ -21,7 +21,7 @@ static struct poll82599_tx_controller tx_device;
 static uint64_t frames = 100000;
 static size_t bytes = 60;
 
-/* Makes frame k, as it is stored. */
+/* Makes frame k, as stored. */
 static void fill(uint8_t *frame, uint64_t k)
 {
     for (size_t at = 0; at < bytes; at++)
@@ -152,8 +152,8 @@ int main(int count, char **words)
     pthread_join(sending, &wrong);
     clock_gettime(CLOCK_MONOTONIC, &ended);
     printf("%llu frames, %llu wrong\n", (unsigned long long)frames, (unsigned long long)(uintptr_t)wrong);
-    printf("left in the rings: %lld and %lld\n", (long long)poll82599_rx_close(&rx, &rx_device), (long long)poll82599_tx_close(&tx, &tx_device));
+    printf("closed with %lld and %lld buffers in the rings\n", (long long)poll82599_rx_close(&rx, &rx_device), (long long)poll82599_tx_close(&tx, &tx_device));
     double took = (double)(ended.tv_sec - begun.tv_sec) * 1e9 + (double)(ended.tv_nsec - begun.tv_nsec);
-    fprintf(stderr, "%.0f ns a frame\n", frames ? took / (double)frames : 0);
+    fprintf(stderr, "%.0f ns/frame\n", frames ? took / (double)frames : 0);
     return wrong != 0;
 }

@@ -1,5 +1,5 @@
-/* A receive ring between two threads, the driver's and the controller's. In each epoch the driver enables the queue, the controller stores
- * its frames and says that it stores no more, and the driver takes and compares them, disables the queue, takes its buffers back and
+/* A receive ring between two threads, a driver and a controller. In each epoch the driver enables the queue, the controller stores its
+ * frames and then says that it stores no more. The driver takes and compares the frames, disables the queue, reclaims its buffers and
  * renews the ring.
  *
  *     receive [FRAMES [BYTES [EPOCHS]]] */
@@ -112,7 +112,7 @@ int main(int count, char **words)
         return 2;
     int32_t length = poll82599_rx_new(7, 200, &driver, &controller);
     int32_t buffers = poll82599_rx_new(128, 257, &driver, &controller);
-    printf("a ring of 7: %d; 257 buffers: %d\n", (int)length, (int)buffers);
+    printf("refused: a ring of 7 descriptors (%d), 257 buffers (%d)\n", (int)length, (int)buffers);
     if (poll82599_rx_new(128, 200, &driver, &controller))
         return 1;
     clock_gettime(CLOCK_MONOTONIC, &begun);
@@ -122,8 +122,8 @@ int main(int count, char **words)
     pthread_join(threads[0], &wrong);
     clock_gettime(CLOCK_MONOTONIC, &ended);
     printf("%llu frames in each of %llu epochs, %llu wrong\n", (unsigned long long)frames, (unsigned long long)epochs, (unsigned long long)(uintptr_t)wrong);
-    printf("left in the ring: %lld\n", (long long)poll82599_rx_close(&driver, &controller));
+    printf("closed with %lld buffers in the ring\n", (long long)poll82599_rx_close(&driver, &controller));
     double took = (ended.tv_sec - begun.tv_sec) * 1e9 + (ended.tv_nsec - begun.tv_nsec);
-    fprintf(stderr, "%.0f ns a frame\n", took / (double)(frames * epochs));
+    fprintf(stderr, "%.0f ns/frame\n", took / (double)(frames * epochs));
     return wrong != 0;
 }

@@ -30,13 +30,13 @@ class Queue:
         self.length = length
         self.memory = bytearray(16 * length)  # the descriptors
         self.head = self.tail = 0  # RDH and RDT, TDH and TDT
-        self.control, self.seen = (2, 2) if enabled else (0, 0)  # the control word, and what the device loaded or answered last
+        self.control, self.seen = (2, 2) if enabled else (0, 0)  # the control word, and its value that the device last loaded or stored
         self.driver, self.device = ("On", SERVING) if enabled else ("New", OFF)
-        self.fill = self.next = 0  # the driver's: where it posts, and where it takes or cleans
-        self.buffers = [None] * length  # the driver's: which buffer it posted at each place
-        self.use = self.known = 0  # the device's: where it fetches, and the tail that it loaded
+        self.fill = self.next = 0  # driver: where it posts, and where it takes or cleans
+        self.buffers = [None] * length  # driver: the buffer that it posted at each place
+        self.use = self.known = 0  # device: where it fetches, and the tail that it loaded last
         self.held = None  # the buffer that the device has fetched
-        self.in_frame = False  # whether the last that was served did not end a frame
+        self.in_frame = False  # whether the last segment that was served did not end its frame
 
     def after(self, place):
         return (place + 1) % self.length
@@ -199,10 +199,10 @@ class Transmit(Queue):
     def __init__(self, length, enabled, by_head):
         super().__init__(length, enabled)
         self.by_head, self.head_word = by_head, 0
-        self.owed = None  # the place of which the device owes a report
+        self.owed = None  # the place that the device still has to report
         self.is_open = False  # whether the last posting does not end its frame
-        self.asked = []  # the driver's: the places with RS that it has not seen reported
-        self.cleanable = 0  # the driver's: how many it may clean
+        self.asked = []  # driver: the places with RS that it has not seen reported
+        self.cleanable = 0  # driver: how many buffers it may clean
 
     def post(self, buffer, length, eop, rs, paylen):
         place = self.fill
@@ -300,7 +300,7 @@ def lists_in(lines):
             yield moves, expected
             moves, expected, ended = [], [], False
     if moves or ended:
-        raise SystemExit("the last list has no end, or nothing is expected of it")
+        raise SystemExit("the last list has no end, or no expected output")
 
 
 def replay(moves, queues):
@@ -330,9 +330,9 @@ def main(receive=Receive, transmit=Transmit):
     for moves, expected in lists_in(sys.stdin):
         queues = {f"r{k}": receive(given.ring, not given.off) for k in range(given.pairs)}
         queues.update({f"t{k}": transmit(given.ring, not given.off, given.head) for k in range(given.pairs)})
-        for at, (told, wanted) in enumerate(zip(replay(moves, queues), expected)):
-            if told != wanted:
-                print(f"list {count + 1}, move {at + 1}: '{told}', and not '{wanted}'")
+        for at, (got, wanted) in enumerate(zip(replay(moves, queues), expected)):
+            if got != wanted:
+                print(f"list {count + 1}, move {at + 1}: '{got}' instead of '{wanted}'")
                 return 1
         count += 1
     print(f"{count} lists agreed")

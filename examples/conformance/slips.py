@@ -3,16 +3,16 @@
 
     slips.py TEXT[:OPTION..] ..
 
-A slip is one change to the model: a condition left out, or a field not set or set to another value. For each text, the
-changed model runs as ring.py does, with the options after the text's name, as in lists.txt:--off:--head. A text finds a
-slip if the model's output differs or the model fails. The program prints each slip with the texts that find it, and the
+TEXT is a file of move lists as ring.py reads them. A slip is one change to the model: a condition is left out, or a field is
+not set or set to another value. The changed model runs on each text as ring.py does, with the options after the text's
+name, as in lists.txt:--off:--head. A text finds a slip if the model's output differs or the model fails. The program prints each slip with the texts that find it, and the
 number of slips that each text finds.
 """
 import contextlib, io, pathlib, re, sys
 
 SOURCE = (pathlib.Path(__file__).parent / "ring.py").read_text()
 
-# a text in the model, of which the first occurrence is replaced, and its replacement
+# Texts of the model and their replacements. The first occurrence is replaced.
 CHANGED = [
     ("self.known = self.tail", "pass"),
     ('self.control, self.driver = 1, "Asked"', 'self.control, self.driver = 2, "Asked"'),
@@ -73,20 +73,20 @@ def first_line(text):
 
 
 def slips():
-    """Each slip in words, and the model with it."""
+    """A description of each slip, and the changed model."""
     for call in re.finditer(r"need\((self.*|not self.*)\)\n", SOURCE):
         given = conditions(call.group(1))
         for at, left_out in enumerate(given):
             rest = ", ".join(given[:at] + given[at + 1 :])
-            yield f"without '{left_out}' of {call.group(0).strip()}", f"{SOURCE[:call.start()]}need({rest})\n{SOURCE[call.end():]}"
+            yield f"'{left_out}' left out of {call.group(0).strip()}", f"{SOURCE[:call.start()]}need({rest})\n{SOURCE[call.end():]}"
     for old, new in CHANGED:
         if old not in SOURCE:
             raise SystemExit(f"the model has no '{old}'")
-        yield f"'{first_line(old)}' is '{first_line(new)}'", SOURCE.replace(old, new, 1)
+        yield f"'{first_line(old)}' replaced by '{first_line(new)}'", SOURCE.replace(old, new, 1)
 
 
 def agrees(model, text, options):
-    """Whether the model tells of a text's lists what the text says."""
+    """Whether the model's output for a text's lists is the expected one."""
     sys.argv, sys.stdin = ["ring.py", *options], io.StringIO(text)
     names = {"__name__": "model"}
     exec(model, names)

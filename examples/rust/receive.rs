@@ -1,5 +1,5 @@
-//! A receive ring between two threads of a program in plain Rust: the controller's thread stores frames, and the driver's takes and
-//! compares them. It calls the exported functions by their operation numbers (docs/LIBRARY.md).
+//! A receive ring between two threads of a program in plain Rust: the controller's thread stores frames, and the driver's thread takes and
+//! compares them. It calls the exported functions by operation numbers (docs/LIBRARY.md).
 
 use std::ptr::null_mut;
 use std::thread;
@@ -16,7 +16,7 @@ struct Call {
     paylen: u32,
 }
 
-/// A handle. It is never copied, and is in one call at a time.
+/// A handle. It is never copied, and one call at a time uses it.
 #[repr(C)]
 struct End(*mut u8);
 
@@ -30,10 +30,10 @@ unsafe extern "C" {
     fn poll82599_rx_close(driver: &mut End, controller: &mut End) -> i64;
 }
 
-/// Makes a step of the driver, with room for a segment.
+/// Makes a step of the driver. `room` receives the bytes of a segment.
 fn drive(driver: &mut End, operation: u32, room: &mut [u8]) -> Call {
     let mut call = Call { operation, ..Call::default() };
-    // SAFETY: `poll82599_rx_new` filled the handle, and only this thread has it.
+    // SAFETY: `poll82599_rx_new` filled the handle, and only this thread uses it.
     unsafe { poll82599_rx_drive(driver, &mut call, room.as_mut_ptr(), room.len()) };
     call
 }
@@ -41,7 +41,7 @@ fn drive(driver: &mut End, operation: u32, room: &mut [u8]) -> Call {
 /// Makes a step of the controller, with a frame of one segment.
 fn serve(controller: &mut End, operation: u32, frame: &[u8]) -> u32 {
     let mut call = Call { operation, eop: 1, ..Call::default() };
-    // SAFETY: `poll82599_rx_new` filled the handle, and only this thread has it.
+    // SAFETY: `poll82599_rx_new` filled the handle, and only this thread uses it.
     unsafe { poll82599_rx_serve(controller, &mut call, frame.as_ptr(), frame.len()) };
     call.answer
 }
@@ -94,8 +94,8 @@ fn main() {
     });
     let mut controller = serving.join().unwrap();
     let (mut driver, wrong) = driving.join().unwrap();
-    // SAFETY: both handles are ends of one ring, and no other thread has them.
+    // SAFETY: both handles are ends of one ring, and no other thread uses them.
     let left = unsafe { poll82599_rx_close(&mut driver, &mut controller) };
-    println!("{FRAMES} frames, {wrong} wrong; {left} buffers lay in the ring");
+    println!("{FRAMES} frames, {wrong} wrong; closed with {left} buffers in the ring");
     assert_eq!(wrong, 0);
 }

@@ -2,10 +2,10 @@
 
 use std::mem;
 
-/// How many bytes a buffer has room for.
+/// The size of a buffer.
 pub const BUFFER_BYTES: usize = 2048;
 
-/// A buffer: its number, and the bytes of one segment in it, which lie on the heap.
+/// A buffer: its number, and the bytes of one segment, which are on the heap.
 pub struct Buffer {
     #[expect(
         dead_code,
@@ -16,7 +16,7 @@ pub struct Buffer {
     room: Box<Room>,
 }
 
-/// The bytes of a buffer, and the buffer that hangs behind it in a packet.
+/// The bytes of a buffer, and the next buffer of its packet.
 struct Room {
     next: Option<Buffer>,
     bytes: [u8; BUFFER_BYTES],
@@ -47,23 +47,23 @@ impl Buffer {
         &mut self.room.bytes[..len]
     }
 
-    /// Puts `bytes` into the buffer, at most `BUFFER_BYTES`, in place of those that were there.
+    /// Replaces the contents by `bytes`, at most `BUFFER_BYTES`.
     pub fn fill(&mut self, bytes: &[u8]) {
         self.room.bytes[..bytes.len()].copy_from_slice(bytes);
         self.len = bytes.len() as u16;
     }
 
-    /// Empties the buffer, and writes none of its bytes.
+    /// Empties the buffer. Writes none of its bytes.
     pub fn clear(&mut self) {
         self.len = 0;
     }
 
-    /// Takes those off that hang behind the buffer, and leaves what `first` has, which is nothing.
+    /// Takes off the buffers that follow this one, and puts them into `first`, which must be empty.
     pub fn swap_next(&mut self, first: &mut Option<Buffer>) {
         mem::swap(first, &mut self.room.next);
     }
 
-    /// Hangs `buffer` behind the last of those that hang behind this one.
+    /// Appends `buffer` after the last buffer that follows this one.
     pub fn push(&mut self, buffer: Buffer) {
         match &mut self.room.next {
             Some(next) => next.push(buffer),

@@ -1,11 +1,11 @@
-//! The controllers of both directions: frames are offered and stored, and sent onto a wire.
+//! The controllers of both directions: they store the frames that are offered, and send frames to a wire.
 
 use crate::{ring, tx_ring};
 
 const LEAST_FRAME: usize = 14;
 const MOST_FRAME: usize = 15_000;
 
-/// What became of a frame that was offered, and of a turn.
+/// The result of an offer or a turn.
 #[derive(Clone, Copy, Debug, PartialEq, Eq)]
 pub enum Offer {
     Off,
@@ -15,7 +15,7 @@ pub enum Offer {
     Held,
 }
 
-/// How many frames were offered, and what became of them.
+/// Counts of the offered frames, by result.
 #[derive(Clone, Copy, Debug, Default)]
 pub struct Tally {
     pub offered: u64,
@@ -24,7 +24,7 @@ pub struct Tally {
     pub oversize: u64,
 }
 
-/// No frame has so many bytes.
+/// The length of a frame is out of range.
 #[derive(Debug)]
 pub struct FrameLength;
 
@@ -46,7 +46,7 @@ impl<'a> RxController<'a> {
         }
     }
 
-    /// Answers what is asked.
+    /// Answers the driver's request.
     pub fn answer(&mut self) {
         self.end.answer();
     }
@@ -55,12 +55,12 @@ impl<'a> RxController<'a> {
         self.end.is_serving()
     }
 
-    /// Says that no more is stored.
+    /// Says that no more frames are stored.
     pub fn finish(&mut self) {
         self.end.set_quiet();
     }
 
-    /// Stores a frame whole, where descriptors are free.
+    /// Stores a whole frame, if enough descriptors are free.
     pub fn offer(&mut self, frame: &[u8]) -> Result<Offer, FrameLength> {
         if frame.len() < LEAST_FRAME || MOST_FRAME < frame.len() {
             return Err(FrameLength);
@@ -114,7 +114,7 @@ impl<'a> RxController<'a> {
     }
 }
 
-/// The frames that went out, one behind another in one block, with the place where each ends.
+/// The frames that were sent, in one block, with the end of each.
 #[derive(Default)]
 pub struct Wire {
     bytes: Vec<u8>,
@@ -132,7 +132,7 @@ impl Wire {
         &self.bytes[start..self.ends[i]]
     }
 
-    /// Makes room for the longest frame and its entry, by at least a quarter of what there is.
+    /// Makes room for the longest frame and its entry. Grows by at least a quarter.
     fn reserve(&mut self) {
         if self.bytes.capacity() - self.bytes.len() < MOST_FRAME {
             let more = (self.bytes.capacity() / 4).max(MOST_FRAME + MOST_FRAME / 2);
@@ -145,7 +145,7 @@ impl Wire {
     }
 }
 
-/// What a turn did.
+/// The result of a turn.
 #[derive(Clone, Copy, Debug, PartialEq, Eq)]
 pub enum Turn {
     Off,
@@ -163,7 +163,7 @@ impl<'a> TxController<'a> {
         TxController { end }
     }
 
-    /// Answers what is asked.
+    /// Answers the driver's request.
     pub fn answer(&mut self) {
         self.end.answer();
     }
@@ -172,7 +172,7 @@ impl<'a> TxController<'a> {
         self.end.is_serving()
     }
 
-    /// Sends the next frame onto the wire, if one is ready.
+    /// Sends the next frame to the wire, if one is ready.
     pub fn turn(&mut self, wire: &mut Wire) -> Turn {
         if !self.end.is_serving() {
             return Turn::Off;

@@ -7,7 +7,7 @@ use ring::Poll;
 /// The most packets of a batch, and of a list of packets.
 pub const MOST_BATCH: usize = 32;
 
-/// Of how many frames one asks for a report, beside the last of each batch.
+/// One in this many frames asks for a report, and so does the last frame of each batch.
 const REPORT_EVERY: u16 = 32;
 
 /// Why a call was refused.
@@ -17,7 +17,7 @@ pub enum Refusal {
     TooLong,
 }
 
-/// A driver of a receive queue, with the chain of a frame of which not all segments were taken yet.
+/// A driver of a receive queue, with the segments of a frame that were taken before its last one.
 pub struct RxDriver<'a> {
     end: ring::Driver<'a>,
     chain: Packet,
@@ -33,7 +33,7 @@ impl<'a> RxDriver<'a> {
         }
     }
 
-    /// Asks for the queue to be enabled, and then looks whether it is.
+    /// Asks for the queue to be enabled, and later checks whether it is.
     pub fn ask_enable(&mut self) {
         self.end.ask_enable();
     }
@@ -54,12 +54,12 @@ impl<'a> RxDriver<'a> {
         self.end.look_off()
     }
 
-    /// Whether segments were taken of a frame that has not ended.
+    /// Whether segments of an unfinished frame were taken.
     pub fn has_chain(&self) -> bool {
         !self.chain.is_empty()
     }
 
-    /// Takes the packets that are done, up to a batch, and posts buffers of the stash in their place.
+    /// Takes up to a batch of packets that are done, and posts buffers of the stash in their place.
     pub fn rx_batch(
         &mut self,
         stash: &mut Stash,
@@ -99,13 +99,13 @@ impl<'a> RxDriver<'a> {
         count
     }
 
-    /// Posts what the stash has and the ring has room for, and publishes it.
+    /// Posts buffers of the stash while the ring has room, and publishes them.
     pub fn post_all(&mut self, stash: &mut Stash) {
         self.fill(stash);
         self.end.publish();
     }
 
-    /// Posts what the stash has and the ring has room for.
+    /// Posts buffers of the stash while the ring has room.
     fn fill(&mut self, stash: &mut Stash) {
         for _ in 0..self.end.room() {
             let Some(buffer) = stash.take() else {
@@ -116,7 +116,7 @@ impl<'a> RxDriver<'a> {
     }
 }
 
-/// A driver of a transmit queue, with its count of frames, modulo `REPORT_EVERY`.
+/// A driver of a transmit queue, with the number of its frames modulo `REPORT_EVERY`.
 pub struct TxDriver<'a> {
     end: tx_ring::Driver<'a>,
     frames: u16,
@@ -143,12 +143,12 @@ impl<'a> TxDriver<'a> {
         self.end.look_off()
     }
 
-    /// Whether all that was posted is cleaned.
+    /// Whether all posted descriptors are cleaned.
     pub fn is_clean(&self) -> bool {
         self.end.is_clean()
     }
 
-    /// Takes back what is reported as sent, and posts and publishes the packets from the front that fit.
+    /// Takes back the buffers of reported frames. Then posts and publishes as many of the first packets as fit.
     pub fn tx_batch(
         &mut self,
         stash: &mut Stash,
@@ -183,7 +183,7 @@ impl<'a> TxDriver<'a> {
         Ok(count)
     }
 
-    /// Takes back what is reported, until the stash is full, or no report is outstanding or made.
+    /// Takes back the buffers of reported frames, until the stash is full or no further report is made.
     fn clean(&mut self, stash: &mut Stash) {
         loop {
             for _ in 0..self.end.reported().min(STASH_BUFFERS - stash.len()) {
@@ -196,7 +196,7 @@ impl<'a> TxDriver<'a> {
     }
 }
 
-/// How many packets from the front fit into so many descriptors together.
+/// How many of the first packets fit into this many descriptors together.
 fn fitting(packets: &[Packet], room: usize) -> usize {
     let mut left = room;
     for (count, packet) in packets.iter().enumerate() {
@@ -208,7 +208,7 @@ fn fitting(packets: &[Packet], room: usize) -> usize {
     packets.len()
 }
 
-/// Posts the buffers of a packet in order; the last ends the frame, and asks for its report.
+/// Posts the buffers of a packet in order. The last one ends the frame and may ask for a report.
 fn post_frame(end: &mut tx_ring::Driver, mut packet: Packet, rs: bool) {
     let length = packet.len() as u16;
     while let Some(buffer) = packet.pop_front() {

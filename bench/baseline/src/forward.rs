@@ -1,5 +1,5 @@
-//! The whole two-port forwarder: each flow has a driver's side and a controller's side, and workers in threads serve the
-//! flows by turns, as many on either side.
+//! The two-port forwarder: each flow has a driver side and a controller side. Worker threads serve the flows in turn, with
+//! the same number of workers for each side.
 
 use crate::buffer::Buffer;
 use crate::controller::{Offer, RxController, Tally, Turn, TxController, Wire};
@@ -12,13 +12,13 @@ use std::sync::atomic::{AtomicBool, Ordering::SeqCst};
 use std::sync::Mutex;
 use std::thread;
 
-/// To how many bytes buffers are filled.
+/// The number of bytes to which buffers are filled.
 const FILL: usize = 2048;
 
-/// After how many frames a new wire is begun, where the wire is thrown away: before the memory of the old one has to grow.
+/// A wire that is not kept is replaced after this many frames, before its memory would have to grow.
 const KEPT: usize = 4;
 
-/// The frames of a flow: those at these places of a list, again and again, so many in all.
+/// The frames of a flow: those at these places of a list, again and again, `count` in all.
 #[derive(Clone, Copy)]
 pub struct Feed<'a> {
     pub frames: &'a [Vec<u8>],
@@ -33,11 +33,11 @@ pub struct Plan {
     pub batch: usize,
     pub workers: usize,
     pub buffers: usize,
-    /// whether the wire is kept, and not thrown away
+    /// Whether the wire is kept.
     pub keeps: bool,
 }
 
-/// What became of a flow.
+/// The result of a flow.
 pub struct Report {
     pub tally: Tally,
     pub taken: u64,
@@ -46,7 +46,7 @@ pub struct Report {
     pub wire: Wire,
 }
 
-/// What a turn of a flow's side did.
+/// The result of a turn of one side of a flow.
 #[derive(PartialEq, Eq)]
 enum Progress {
     Worked,
@@ -66,7 +66,7 @@ enum Phase {
     Over,
 }
 
-/// The empty buffers of all flows that no flow has.
+/// The empty buffers that belong to no flow.
 type Pool = Mutex<Vec<Buffer>>;
 
 struct Drivers<'a> {
@@ -81,7 +81,7 @@ struct Drivers<'a> {
 }
 
 impl Drivers<'_> {
-    /// Takes buffers up to its share, and asks for both queues.
+    /// Takes up to `share` buffers, and asks for both queues to be enabled.
     fn start(&mut self, share: usize) {
         let mut pool = self.pool.lock().expect("no worker failed");
         let first = pool.len() - share;
@@ -155,9 +155,9 @@ struct Controllers<'a> {
     tx: TxController<'a>,
     frames: &'a [Vec<u8>],
     places: &'a [u32],
-    /// at which of the places stands the frame that is offered next
+    /// The index in `places` of the next frame to offer.
     next: usize,
-    /// how many frames are still to be decided on
+    /// How many frames have not been stored, dropped or refused yet.
     left: u64,
     keeps: bool,
     wire: Wire,
@@ -201,7 +201,7 @@ impl Side for Controllers<'_> {
     }
 }
 
-/// Serves each of its flows by turns, until all are over.
+/// Serves the flows of one worker in turn, until all are over.
 fn serve<S: Side>(mut flows: Vec<S>, stop: &AtomicBool) -> Vec<S> {
     let mut over = vec![false; flows.len()];
     let mut left = flows.len();
@@ -233,7 +233,7 @@ fn serve<S: Side>(mut flows: Vec<S>, stop: &AtomicBool) -> Vec<S> {
     flows
 }
 
-/// Deals flow `f` to the worker `f mod workers`.
+/// Gives flow `f` to worker `f mod workers`.
 fn deal<S>(flows: Vec<S>, workers: usize) -> Vec<Vec<S>> {
     let mut hands: Vec<Vec<S>> = (0..workers).map(|_| Vec::new()).collect();
     for (f, flow) in flows.into_iter().enumerate() {
@@ -242,7 +242,7 @@ fn deal<S>(flows: Vec<S>, workers: usize) -> Vec<Vec<S>> {
     hands
 }
 
-/// The flows of all workers, in their order.
+/// The flows of all workers, in their original order.
 fn collect<S>(hands: Vec<Vec<S>>) -> Vec<S> {
     let mut hands: Vec<_> = hands.into_iter().map(Vec::into_iter).collect();
     let mut flows = Vec::new();

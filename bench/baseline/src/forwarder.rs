@@ -1,4 +1,4 @@
-//! The drivers' side of both layers: what a receive queue gets is sent on a transmit queue.
+//! The drivers of both layers: they send the packets of a receive queue on a transmit queue.
 
 use crate::buffer::Buffer;
 use crate::driver::{MOST_BATCH, Refusal, RxDriver, TxDriver};
@@ -11,7 +11,7 @@ pub struct Moved {
     pub sent: usize,
 }
 
-/// A driver of either direction, the empty buffers at hand, and the packets that were received and are not sent yet.
+/// A driver of each direction, the empty buffers, and the packets that were received but not sent yet.
 pub struct Forwarder<'a> {
     rx: RxDriver<'a>,
     tx: TxDriver<'a>,
@@ -38,7 +38,7 @@ impl<'a> Forwarder<'a> {
         self.rx.look_on() && self.tx.look_on()
     }
 
-    /// Posts a buffer at each place of a receive ring of so many, and fills the stash.
+    /// Posts a buffer at each place of a receive ring of `ring` descriptors, and fills the stash.
     pub fn fill(&mut self, ring: usize) -> Result<(), Refusal> {
         let mut stock = (0..ring + STASH_BUFFERS).map(|number| Buffer::new(number as u16));
         for _ in 0..=ring / STASH_BUFFERS + 1 {
@@ -52,7 +52,7 @@ impl<'a> Forwarder<'a> {
         Ok(())
     }
 
-    /// Receives a batch of packets, and sends those on that are at hand.
+    /// Receives a batch of packets, and sends on the packets that are waiting.
     pub fn forward(&mut self) -> Result<Moved, Refusal> {
         let received = self.rx.rx_batch(&mut self.stash, &mut self.packets)?;
         let sent = self.tx.tx_batch(&mut self.stash, &mut self.packets)?;

@@ -1,22 +1,22 @@
-//! A run of the whole forwarder: frames of one size on so many flows.
+//! A run of the forwarder: frames of one size on several flows.
 
 use crate::forward::{Feed, Plan, Report, forward};
 use crate::words::Load;
 use std::time::{Duration, Instant};
 
-/// How many frames each flow goes over again and again, where the wire is thrown away.
+/// How many different frames a flow has if its wire is not kept.
 const FRAMES: u32 = 256;
 
-/// How many buffers all flows have together.
+/// The number of buffers of all flows together.
 const BUFFERS: usize = 16_384;
 
-/// How many flows there are beside those with frames: a forwarder has two ports.
+/// The number of flows, including those without frames: a forwarder has two ports.
 fn flows_of(busy: usize) -> usize {
     busy.max(2)
 }
 
-/// The frames, and at which places of them stand those of each busy flow: where the wire is kept all frames of the load,
-/// shared out in turn, and else a few that every flow goes over again and again.
+/// The frames, and the places of each busy flow's frames in the list. If the wire is kept, the list has all frames of the
+/// load, shared out in turn. Otherwise it has a few frames that every flow offers again and again.
 fn frames_of(load: &Load, busy: usize, keeps: bool) -> (Vec<Vec<u8>>, Vec<Vec<u32>>) {
     let (count, step) = if keeps { (load.frames as u32, busy) } else { (FRAMES, 1) };
     let frames = (0..count).map(|_| load.frame()).collect();
@@ -25,7 +25,7 @@ fn frames_of(load: &Load, busy: usize, keeps: bool) -> (Vec<Vec<u8>>, Vec<Vec<u3
     (frames, places.collect())
 }
 
-/// Forwards the frames of the load, shared out to so many flows, and answers how long that took.
+/// Forwards the frames of the load, shared out to `busy` flows. Returns the time.
 pub fn run(load: &Load, batch: usize, busy: usize, workers: usize, keeps: bool) -> Duration {
     let (frames, places) = frames_of(load, busy, keeps);
     let plan = Plan {
@@ -59,7 +59,7 @@ pub fn run(load: &Load, batch: usize, busy: usize, workers: usize, keeps: bool) 
     spent
 }
 
-/// Whether all frames of a flow went out, and of a wire that was kept the first and the last are touched.
+/// Checks that all frames of a flow were sent and, if the wire is kept, that byte 1 of the first and last is incremented.
 fn check(feed: &Feed, report: &Report, keeps: bool) {
     assert_eq!(report.tally.stored, feed.count);
     assert_eq!((report.taken, report.posted), (feed.count, feed.count));

@@ -1,4 +1,4 @@
-//! A run of frames through both layers: offered to a controller, received and sent on by the drivers, and put onto a wire.
+//! A run through both layers: frames are offered to a controller, received and sent on by the drivers, and put onto a wire.
 
 use crate::controller::{Offer, RxController, Turn, TxController, Wire};
 use crate::forwarder::Forwarder;
@@ -9,10 +9,10 @@ use crate::words::Load;
 use std::thread;
 use std::time::{Duration, Instant};
 
-/// To how many bytes buffers are filled.
+/// The number of bytes to which buffers are filled.
 const FILL: usize = 2048;
 
-/// A controller of either direction, and the wire.
+/// A controller of each direction, and the wire.
 struct Device<'a> {
     rx: RxController<'a>,
     tx: TxController<'a>,
@@ -20,8 +20,8 @@ struct Device<'a> {
 }
 
 impl Device<'_> {
-    /// Offers the frame up to so many times, until it is not stored, and then puts up to so many frames onto the wire;
-    /// answers how many were stored and sent.
+    /// Offers the frame up to `offers` times, until it is not stored, and then puts up to `turns` frames onto the wire.
+    /// Returns how many were stored and sent.
     fn serve(&mut self, frame: &[u8], offers: u64, turns: u64) -> (u64, u64) {
         (self.offer(frame, offers), self.turn(turns))
     }
@@ -45,7 +45,7 @@ impl Device<'_> {
     }
 }
 
-/// Passes the frames, and answers how long that took.
+/// Passes the frames. Returns the time.
 pub fn run(load: &Load, batch: usize, in_threads: bool) -> Duration {
     let mut from = Ring::new(load.ring);
     let mut to = TxRing::new(load.ring, Completion::Status);
@@ -77,7 +77,7 @@ pub fn run(load: &Load, batch: usize, in_threads: bool) -> Duration {
     spent
 }
 
-/// Has both sides work in turn, until all frames are on the wire.
+/// Lets both sides work in turn, until all frames are on the wire.
 fn alone(device: &mut Device, mut forwarder: Forwarder, frame: &[u8], frames: u64, batch: u64) {
     let mut left = frames;
     while device.wire.len() as u64 != frames {
@@ -122,7 +122,7 @@ fn forward_all(mut forwarder: Forwarder, frames: u64) {
     }
 }
 
-/// Whether all frames were stored, and as many are on the wire, of which the first and the last are looked at.
+/// Checks that all frames were stored and are on the wire. Compares the first and the last one.
 fn check(device: &Device, frame: &[u8], frames: u64) {
     let tally = device.rx.tally();
     assert_eq!((tally.offered, tally.stored), (frames, frames));

@@ -1,4 +1,4 @@
-//! Passes frames through one ring, or through the layers of two, and prints what one costs.
+//! Passes frames through a ring or through several layers, and prints the cost of a frame.
 
 mod buffer;
 mod controller;

@@ -1,8 +1,8 @@
-//! The packets of the layers, and the empty buffers at hand.
+//! The packets of the layers, and a stash of empty buffers.
 
 use crate::buffer::Buffer;
 
-/// The buffers of a frame, one hanging behind another.
+/// The buffers of a frame, as a linked list.
 #[derive(Default)]
 pub struct Packet {
     first: Option<Buffer>,
@@ -15,7 +15,7 @@ impl Packet {
         self.len as usize
     }
 
-    /// How many buffers there are.
+    /// The number of buffers.
     pub fn segments(&self) -> usize {
         self.segments as usize
     }
@@ -25,7 +25,7 @@ impl Packet {
         self.segments == 0
     }
 
-    /// Lets the byte at offset 1 grow by one. There has to be one.
+    /// Increments the byte at offset 1, which must exist.
     pub fn touch(&mut self) {
         if let Some(first) = &mut self.first {
             let byte = &mut first.bytes_mut()[1];
@@ -33,7 +33,7 @@ impl Packet {
         }
     }
 
-    /// Adds a buffer behind the others.
+    /// Appends a buffer.
     pub fn push_back(&mut self, buffer: Buffer) {
         self.len += buffer.len() as u32;
         self.segments += 1;
@@ -56,7 +56,7 @@ impl Packet {
 /// The most buffers of a stash.
 pub const STASH_BUFFERS: usize = 256;
 
-/// The empty buffers at hand, of which the one that was put last is taken first.
+/// Empty buffers. The last one put in is the first one taken out.
 pub struct Stash {
     buffers: Vec<Buffer>,
 }
@@ -80,12 +80,12 @@ impl Stash {
         self.buffers.pop()
     }
 
-    /// Puts a buffer in, also where there is no room for so many: a start has those that a whole ring gets.
+    /// Puts a buffer in, even above the limit: at the start the stash has the buffers for a whole ring.
     pub fn put_any(&mut self, buffer: Buffer) {
         self.buffers.push(buffer);
     }
 
-    /// Empties a buffer and puts it in. There has to be room.
+    /// Empties a buffer and puts it in. There must be room.
     pub fn put(&mut self, mut buffer: Buffer) {
         assert!(!self.is_full());
         buffer.clear();

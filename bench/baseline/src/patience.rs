@@ -1,11 +1,11 @@
-//! How a thread waits for the other.
+//! How a thread waits for another.
 
 use std::{hint, thread};
 
-/// After this many tries in vain in a row a side lets another thread run.
+/// After this many unsuccessful tries in a row, a thread lets another one run.
 const TRIES_BEFORE_YIELD: u32 = 10_000;
 
-/// Counts tries in vain, and waits a little after each.
+/// Counts unsuccessful tries, and waits a little after each.
 #[derive(Default)]
 pub struct Patience {
     tries: u32,

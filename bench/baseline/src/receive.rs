@@ -7,7 +7,7 @@ use crate::words::{Load, Tally};
 use std::thread;
 use std::time::{Duration, Instant};
 
-/// Passes the frames, and answers how long that took.
+/// Passes the frames. Returns the time.
 pub fn run(load: &Load, batch: usize) -> Duration {
     let mut ring = Ring::new(load.ring);
     let (mut driver, controller) = ring.ends();
@@ -58,7 +58,7 @@ fn drive(mut end: Driver, load: &Load, batch: usize) -> Tally {
     taken
 }
 
-/// Takes up to `batch` frames, and answers how many there were.
+/// Takes up to `batch` frames. Returns how many.
 fn take_batch(end: &mut Driver, batch: usize, taken: &mut Tally) -> usize {
     for got in 0..batch {
         let Poll::Segment {

@@ -1,4 +1,4 @@
-//! A run of frames through a receive ring, both drivers and a transmit ring, on one thread.
+//! A run through a receive ring, both drivers and a transmit ring, on one thread.
 
 use crate::forwarder::Forwarder;
 use crate::ring::{self, Ring};
@@ -6,7 +6,7 @@ use crate::tx_ring::{self, Completion, TxRing};
 use crate::words::{Load, Tally};
 use std::time::{Duration, Instant};
 
-/// Relays the frames, and answers how long that took.
+/// Relays the frames. Returns the time.
 pub fn run(load: &Load, batch: usize) -> Duration {
     let mut from = Ring::new(load.ring);
     let mut to = TxRing::new(load.ring, Completion::Status);
@@ -34,7 +34,7 @@ pub fn run(load: &Load, batch: usize) -> Duration {
     spent
 }
 
-/// Stores the frame as often as descriptors are free, at most so many times, and answers how often.
+/// Stores the frame while descriptors are free, at most `most` times. Returns how often.
 fn store_more(end: &mut ring::Controller, frame: &[u8], most: u64) -> u64 {
     for stored in 0..most {
         if end.known() == 0 && end.look() == 0 {
@@ -47,7 +47,7 @@ fn store_more(end: &mut ring::Controller, frame: &[u8], most: u64) -> u64 {
     most
 }
 
-/// Sends what is ready.
+/// Sends the frames that are ready.
 fn send_ready(end: &mut tx_ring::Controller, tally: &mut Tally) {
     for _ in 0..end.look() {
         let (buffer, _eop) = end.fetch();

@@ -1,6 +1,6 @@
-//! A receive ring that a driver and a controller share without a lock. A slot is read and written by one side at a time:
-//! by the driver from the taking of a descriptor to its next posting, by the controller from a fetch to its write-back,
-//! and by nobody in between.
+//! A receive ring that a driver and a controller share without a lock. One side at a time reads and writes a slot: the
+//! driver from taking a descriptor to posting it again, the controller from fetching it to writing it back. In between
+//! neither does.
 
 use crate::buffer::Buffer;
 use crate::table::{Register, Table};
@@ -11,10 +11,10 @@ const DD: u64 = 1;
 /// Bit 1 of a written-back word: the segment ends a frame.
 const EOP: u64 = 2;
 
-/// Where a written-back word has the segment's length, 16 bits.
+/// The position of the segment's length, 16 bits, in a written-back word.
 const LENGTH_SHIFT: u32 = 32;
 
-/// The values of the control word: the driver stores what it asks for, and the controller what it answers.
+/// The values of the control word. The driver stores requests, and the controller stores answers.
 pub const DISABLED: u64 = 0;
 pub const ENABLE_ASKED: u64 = 1;
 pub const ENABLED: u64 = 2;
@@ -25,14 +25,14 @@ pub struct Ring {
 }
 
 impl Ring {
-    /// A ring of `size` descriptors, a power of two from 8 to 4,096.
+    /// Makes a ring of `size` descriptors, a power of two from 8 to 4,096.
     pub fn new(size: usize) -> Self {
         Ring {
             table: Table::new(size),
         }
     }
 
-    /// The two ends. They borrow the ring uniquely, so there is one of each.
+    /// The two ends. They borrow the ring mutably, so there is only one of each.
     pub fn ends(&mut self) -> (Driver<'_>, Controller<'_>) {
         let table = &self.table;
         let driver = Driver {
@@ -51,7 +51,7 @@ impl Ring {
     }
 }
 
-/// Answers what is asked of a queue, and whether it is served then.
+/// Answers the request of a queue. Returns whether the queue is then enabled.
 pub fn answer(table: &Table, serving: bool) -> bool {
     match table.load_register(Register::Control) {
         ENABLE_ASKED => {
@@ -66,13 +66,13 @@ pub fn answer(table: &Table, serving: bool) -> bool {
     }
 }
 
-/// What a poll of the driver found.
+/// The result of a poll.
 pub enum Poll {
     /// Nothing is posted.
     Empty,
     /// The oldest descriptor is not written back.
     NotDone,
-    /// A segment: its buffer, and its length and whether it ends a frame, as the word says.
+    /// A segment: its buffer, its length, and whether it ends a frame.
     Segment {
         buffer: Buffer,
         length: u16,
@@ -85,7 +85,7 @@ pub struct Driver<'a> {
     table: &'a Table,
     fill: usize,
     next: usize,
-    // whether the queue was seen enabled, which the layers ask
+    // whether the driver saw the queue enabled
     on: bool,
 }
 
@@ -94,13 +94,13 @@ impl Driver<'_> {
         self.table.store_register(Register::Control, ENABLE_ASKED);
     }
 
-    /// Looks whether the queue is enabled.
+    /// Checks whether the queue is enabled.
     pub fn look_on(&mut self) -> bool {
         self.on = self.table.load_register(Register::Control) == ENABLED;
         self.on
     }
 
-    /// Whether the queue was seen enabled.
+    /// Whether the driver saw the queue enabled.
     pub fn is_on(&self) -> bool {
         self.on
     }
@@ -115,7 +115,7 @@ impl Driver<'_> {
         self.on = false;
     }
 
-    /// Looks whether the queue is disabled.
+    /// Checks whether the queue is disabled.
     pub fn look_off(&self) -> bool {
         self.table.load_register(Register::Control) == DISABLED
     }
@@ -125,15 +125,15 @@ impl Driver<'_> {
         self.table.size() - 1 - self.table.between(self.next, self.fill)
     }
 
-    /// Posts an empty buffer. There has to be room.
+    /// Posts an empty buffer. There must be room.
     pub fn post(&mut self, buffer: Buffer) {
-        // SAFETY: the place is not posted, so it is the driver's until the store.
+        // SAFETY: the place is not posted, so it belongs to the driver until the store.
         unsafe { self.table.put_in(self.fill, buffer) };
         self.table.store(self.fill, 0);
         self.fill = self.table.after(self.fill);
     }
 
-    /// Makes what was posted known to the controller.
+    /// Publishes the posted descriptors.
     pub fn publish(&mut self) {
         self.table.store_register(Register::Tail, self.fill as u64);
     }
@@ -167,7 +167,7 @@ pub struct Controller<'a> {
 }
 
 impl Controller<'_> {
-    /// Enables or disables the queue where that is asked.
+    /// Enables or disables the queue, if the driver asks for it.
     pub fn answer(&mut self) {
         self.serving = answer(self.table, self.serving);
     }
@@ -195,17 +195,17 @@ impl Controller<'_> {
         self.known
     }
 
-    /// Loads the tail, and answers how many descriptors are free.
+    /// Loads the tail. Returns how many descriptors are free.
     pub fn look(&mut self) -> usize {
         let tail = self.table.load_register(Register::Tail) as usize;
         self.known = self.table.between(self.next, tail);
         self.known
     }
 
-    /// Takes the buffer of the next free descriptor. One has to be known to be free.
+    /// Takes the buffer of the next free descriptor. At least one must be known to be free.
     pub fn fetch(&mut self) -> Buffer {
         let _word = self.table.load(self.next);
-        // SAFETY: the place lies before a published tail, so the driver has given it.
+        // SAFETY: the place is before a published tail, so the driver has given it to the controller.
         unsafe { self.table.take_out(self.next) }
     }
 
@@ -213,7 +213,7 @@ impl Controller<'_> {
     pub fn write_back(&mut self, buffer: Buffer, eop: bool) {
         let eop = if eop { EOP } else { 0 };
         let word = DD + eop + ((buffer.bytes().len() as u64) << LENGTH_SHIFT);
-        // SAFETY: the place was fetched, and is the controller's until the store.
+        // SAFETY: the place was fetched, and belongs to the controller until the store.
         unsafe { self.table.put_in(self.next, buffer) };
         self.table.store(self.next, word);
         self.next = self.table.after(self.next);

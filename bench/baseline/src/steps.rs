@@ -1,4 +1,4 @@
-//! What single steps on a word cost, which is what a ring's figures come down to.
+//! The cost of single steps on a word.
 
 use std::hint::{black_box, spin_loop};
 use std::sync::atomic::{AtomicU64, Ordering::SeqCst};
@@ -7,8 +7,8 @@ use std::time::Instant;
 
 const ROUNDS: u64 = 2_000_000;
 
-/// Prints the nanoseconds of a store and of a load by one thread, and of handing a word to another
-/// thread, which waits for it.
+/// Prints the nanoseconds of a store and of a load on one thread, and of handing a word over to another
+/// thread that waits for it.
 pub fn print() {
     let word = AtomicU64::new(0);
     // The compiler must not know that no other thread reads it.
@@ -31,7 +31,7 @@ fn each(mut step: impl FnMut(u64)) -> f64 {
     start.elapsed().as_nanos() as f64 / ROUNDS as f64
 }
 
-/// Two threads store the next number in turn, each as soon as it sees that of the other.
+/// Two threads store the next number in turn, each as soon as it sees the other's.
 fn hand_over() -> f64 {
     let word = AtomicU64::new(0);
     let wait_for = |number| {

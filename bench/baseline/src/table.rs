@@ -1,14 +1,14 @@
-//! What both rings share: words, and a slot for the buffer of each descriptor.
+//! The part that both rings share: words, and a slot for the buffer of each descriptor.
 //!
-//! A ring has `n` descriptors of one word each. Behind them are the head, the tail, the control word, a word that a
-//! receive ring's controller has for quiet, and one for the head that a transmit ring reports. Every step on a word is one
+//! A ring has `n` descriptors of one word each. After them come the head, the tail, the control word, the quiet word of a
+//! receive ring's controller, and the word to which a transmit ring reports its head. Every step on a word is one
 //! sequentially consistent load or store, as in the proved rings.
 
 use crate::buffer::Buffer;
 use std::cell::UnsafeCell;
 use std::sync::atomic::{AtomicU64, Ordering::SeqCst};
 
-/// Which of the words behind the descriptors.
+/// The words after the descriptors.
 #[derive(Clone, Copy)]
 pub enum Register {
     Head,
@@ -28,7 +28,7 @@ pub struct Table {
 unsafe impl Sync for Table {}
 
 impl Table {
-    /// A table of `size` descriptors, a power of two from 8 to 4,096.
+    /// Makes a table of `size` descriptors, a power of two from 8 to 4,096.
     pub fn new(size: usize) -> Self {
         Table {
             size,
@@ -61,19 +61,19 @@ impl Table {
         (place + 1) & (self.size - 1)
     }
 
-    /// How many places lie from one up to another.
+    /// The number of places from one to another.
     pub fn between(&self, from: usize, to: usize) -> usize {
         to.wrapping_sub(from) & (self.size - 1)
     }
 
     /// # Safety
-    /// The caller is the one end that may reach the slot, and the slot is empty.
+    /// The caller is the only end that may use the slot, and the slot is empty.
     pub unsafe fn put_in(&self, place: usize, buffer: Buffer) {
         unsafe { *self.slots[place].get() = Some(buffer) }
     }
 
     /// # Safety
-    /// The caller is the one end that may reach the slot, and the slot is full.
+    /// The caller is the only end that may use the slot, and the slot is full.
     pub unsafe fn take_out(&self, place: usize) -> Buffer {
         unsafe {
             let slot = &mut *self.slots[place].get();

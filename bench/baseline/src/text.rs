@@ -1,17 +1,17 @@
-//! The whole forwarder from text to text: a script of frames on standard input, wires and counts on standard output.
+//! The forwarder from text to text: a script of frames on standard input, wires and counts on standard output.
 
 use crate::forward::{Feed, Plan, Report, forward};
 use std::io::{self, Read, Write};
 
 const DIGITS: &[u8; 16] = b"0123456789abcdef";
 
-/// What a script says: its frames, and of each flow the places of its frames.
+/// A script: its frames, and the places of each flow's frames.
 struct Script {
     frames: Vec<Vec<u8>>,
     places: Vec<Vec<u32>>,
 }
 
-/// What a digit says, by its range, as the crate `hex` has it.
+/// The value of a hexadecimal digit.
 fn nibble(digit: u8) -> Option<u8> {
     match digit {
         b'A'..=b'F' => Some(digit - b'A' + 10),
@@ -64,7 +64,7 @@ impl Script {
 
 fn print(out: &mut impl Write, reports: &[Report], pairs: usize) -> io::Result<()> {
     let mut line = Vec::new();
-    // a flow's frames leave the other port
+    // a flow's frames leave at the other port
     for f in (pairs..2 * pairs).chain(0..pairs) {
         let port = 1 - f / pairs;
         for k in 0..reports[f].wire.len() {
@@ -97,7 +97,7 @@ fn print(out: &mut impl Write, reports: &[Report], pairs: usize) -> io::Result<(
     Ok(())
 }
 
-/// Forwards a script, and answers whether it was one.
+/// Forwards a script. Returns whether the script was valid.
 pub fn run(pairs: usize, ring: usize, workers: usize) -> io::Result<bool> {
     let mut text = Vec::new();
     io::stdin().read_to_end(&mut text)?;

@@ -7,7 +7,7 @@ use crate::words::{Load, Tally};
 use std::thread;
 use std::time::{Duration, Instant};
 
-/// Sends the frames, and answers how long that took.
+/// Sends the frames. Returns the time.
 pub fn run(load: &Load, report: usize, completion: Completion) -> Duration {
     let mut ring = TxRing::new(load.ring, completion);
     let (driver, controller) = ring.ends();
@@ -53,7 +53,7 @@ fn control(mut end: Controller, load: &Load) -> Tally {
     sent
 }
 
-/// Which frames are still to be posted, and with which a report is asked for.
+/// How many frames are still to be posted, and which of them ask for a report.
 struct Course {
     left: u64,
     every: usize,
@@ -61,7 +61,7 @@ struct Course {
 }
 
 impl Course {
-    /// Goes on to the next frame, and answers whether a report is asked for with it.
+    /// Advances to the next frame. Returns whether it asks for a report.
     fn next(&mut self) -> bool {
         self.left -= 1;
         self.until -= 1;
@@ -73,8 +73,8 @@ impl Course {
     }
 }
 
-/// Has the queue enabled, posts the frames as there is room for them, and cleans up after what is reported. At the end
-/// all buffers are in the stock again.
+/// Enables the queue, posts the frames as there is room, and cleans the reported ones. At the end all buffers are in the
+/// stock again.
 fn drive(mut end: Driver, mut stock: Vec<Buffer>, load: &Load, report: usize) -> Vec<Buffer> {
     let frame = load.frame();
     let mut patience = Patience::default();
@@ -113,7 +113,7 @@ fn post_more(end: &mut Driver, stock: &mut Vec<Buffer>, frame: &[u8], course: &m
     end.publish();
 }
 
-/// Looks for the oldest report that is outstanding, and takes back what it covers.
+/// Checks the oldest outstanding report, and takes back the buffers that it covers.
 fn clean(end: &mut Driver, stock: &mut Vec<Buffer>) -> bool {
     if !end.poll_report() {
         return false;

@@ -1,25 +1,25 @@
-//! A transmit ring that a driver and a controller share without a lock. A slot is read and written by one side at a time:
-//! by the driver from the cleaning of a descriptor to its next posting, by the controller from a fetch until the head is
-//! stored, and by nobody in between.
+//! A transmit ring that a driver and a controller share without a lock. One side at a time reads and writes a slot: the
+//! driver from cleaning a descriptor to posting it again, the controller from fetching it to storing the head. In between
+//! neither does.
 
 use crate::buffer::Buffer;
 use crate::ring::{self, DISABLE_ASKED, DISABLED, ENABLE_ASKED, ENABLED};
 use crate::table::{Register, Table};
 use std::collections::VecDeque;
 
-/// A descriptor's word, but for EOP, RS and the two lengths: DTYP 3, IFCS, DEXT.
+/// A descriptor's word, without EOP, RS and the two lengths: DTYP 3, IFCS, DEXT.
 const KIND: u64 = (3 << 20) + (1 << 25) + (1 << 29);
 
 /// The descriptor ends a frame.
 const EOP: u64 = 1 << 24;
 
-/// A report is asked for.
+/// The descriptor asks for a report.
 const RS: u64 = 1 << 27;
 
-/// Where a descriptor has the whole frame's length.
+/// The position of the frame's length in a descriptor.
 const PAYLEN_SHIFT: u32 = 46;
 
-/// The word of a report by its descriptor: done.
+/// The word of a reported descriptor: done.
 const DD: u64 = 1 << 32;
 
 /// How the controller reports that frames are sent.
@@ -27,7 +27,7 @@ const DD: u64 = 1 << 32;
 pub enum Completion {
     /// By DD in the descriptor that asked for the report.
     Status,
-    /// By its head, in a word of its own.
+    /// By its head, in a separate word.
     Head,
 }
 
@@ -37,7 +37,7 @@ pub struct TxRing {
 }
 
 impl TxRing {
-    /// A ring of `size` descriptors, a power of two from 8 to 4,096. It is not enabled.
+    /// Makes a ring of `size` descriptors, a power of two from 8 to 4,096. It is not enabled.
     pub fn new(size: usize, completion: Completion) -> Self {
         TxRing {
             table: Table::new(size),
@@ -45,7 +45,7 @@ impl TxRing {
         }
     }
 
-    /// The two ends. They borrow the ring uniquely, so there is one of each.
+    /// The two ends. They borrow the ring mutably, so there is only one of each.
     pub fn ends(&mut self) -> (Driver<'_>, Controller<'_>) {
         let (table, completion) = (&self.table, self.completion);
         let driver = Driver {
@@ -77,15 +77,15 @@ impl TxRing {
 pub struct Driver<'a> {
     table: &'a Table,
     completion: Completion,
-    // whether the queue was seen enabled, which the layers ask
+    // whether the driver saw the queue enabled
     on: bool,
     fill: usize,
     next: usize,
     out: usize,
-    // all before this place is seen reported
+    // all places before this one are known to be reported
     seen: usize,
     done: usize,
-    // the places of the reports that are asked for and not seen, the oldest first
+    // the places of the outstanding reports, the oldest first
     asked: VecDeque<usize>,
 }
 
@@ -94,13 +94,13 @@ impl Driver<'_> {
         self.table.store_register(Register::Control, ENABLE_ASKED);
     }
 
-    /// Looks whether the queue is enabled.
+    /// Checks whether the queue is enabled.
     pub fn look_on(&mut self) -> bool {
         self.on = self.table.load_register(Register::Control) == ENABLED;
         self.on
     }
 
-    /// Whether the queue was seen enabled.
+    /// Whether the driver saw the queue enabled.
     pub fn is_on(&self) -> bool {
         self.on
     }
@@ -110,7 +110,7 @@ impl Driver<'_> {
         self.on = false;
     }
 
-    /// Looks whether the queue is disabled.
+    /// Checks whether the queue is disabled.
     pub fn look_off(&self) -> bool {
         self.table.load_register(Register::Control) == DISABLED
     }
@@ -124,19 +124,19 @@ impl Driver<'_> {
         self.table.size() - 1 - self.out
     }
 
-    /// Whether all that was posted is cleaned.
+    /// Whether all posted descriptors are cleaned.
     pub fn is_clean(&self) -> bool {
         self.out == 0
     }
 
-    /// Posts a buffer of a frame of so many bytes. There has to be room.
+    /// Posts a buffer of a frame of `paylen` bytes. There must be room.
     pub fn post(&mut self, buffer: Buffer, eop: bool, rs: bool, paylen: u16) {
         let word = buffer.len() as u64
             + KIND
             + if eop { EOP } else { 0 }
             + if rs { RS } else { 0 }
             + (u64::from(paylen) << PAYLEN_SHIFT);
-        // SAFETY: the place is not posted, so it is the driver's until the tail is stored.
+        // SAFETY: the place is not posted, so it belongs to the driver until the tail is stored.
         unsafe { self.table.put_in(self.fill, buffer) };
         self.table.store(self.fill, word);
         if rs {
@@ -146,12 +146,12 @@ impl Driver<'_> {
         self.out += 1;
     }
 
-    /// Makes what was posted known to the controller.
+    /// Publishes the posted descriptors.
     pub fn publish(&mut self) {
         self.table.store_register(Register::Tail, self.fill as u64);
     }
 
-    /// Looks whether the oldest report that is asked for is made: then all up to it can be cleaned.
+    /// Checks whether the oldest outstanding report is made. Then all descriptors up to it can be cleaned.
     pub fn poll_report(&mut self) -> bool {
         let Some(&place) = self.asked.front() else {
             return false;
@@ -173,15 +173,15 @@ impl Driver<'_> {
         made
     }
 
-    /// How many buffers are seen reported and not cleaned.
+    /// How many buffers are reported and not cleaned.
     pub fn reported(&self) -> usize {
         self.done
     }
 
-    /// Takes the oldest buffer back. One has to be seen reported.
+    /// Takes the oldest buffer back. At least one must be reported.
     pub fn clean(&mut self) -> Buffer {
         self.table.store(self.next, 0);
-        // SAFETY: the place is seen reported, so the controller has given it back.
+        // SAFETY: the place is reported, so the controller has given it back.
         let buffer = unsafe { self.table.take_out(self.next) };
         self.next = self.table.after(self.next);
         self.out -= 1;
@@ -203,7 +203,7 @@ pub struct Controller<'a> {
 }
 
 impl Controller<'_> {
-    /// Enables or disables the queue where that is asked.
+    /// Enables or disables the queue, if the driver asks for it.
     pub fn answer(&mut self) {
         self.serving = ring::answer(self.table, self.serving);
     }
@@ -217,25 +217,25 @@ impl Controller<'_> {
         self.ready
     }
 
-    /// Loads the tail, and answers how many descriptors are ready.
+    /// Loads the tail. Returns how many descriptors are ready.
     pub fn look(&mut self) -> usize {
         let tail = self.table.load_register(Register::Tail) as usize;
         self.ready = self.table.between(self.serve, tail);
         self.ready
     }
 
-    /// Takes the buffer of the next descriptor, and whether it ends its frame. One has to be known to be ready.
+    /// Takes the buffer of the next descriptor. Also returns whether it ends its frame. At least one must be ready.
     pub fn fetch(&mut self) -> (Buffer, bool) {
         let word = self.table.load(self.serve);
         self.asks = word & RS != 0;
-        // SAFETY: the place lies before a published tail, so the driver has given it.
+        // SAFETY: the place is before a published tail, so the driver has given it to the controller.
         let buffer = unsafe { self.table.take_out(self.serve) };
         (buffer, word & EOP != 0)
     }
 
-    /// Gives the fetched buffer back, as sent, and stores the head.
+    /// Gives the fetched buffer back as sent, and stores the head.
     pub fn give_back(&mut self, buffer: Buffer) {
-        // SAFETY: the place was fetched, and is the controller's until the store.
+        // SAFETY: the place was fetched, and belongs to the controller until the store.
         unsafe { self.table.put_in(self.serve, buffer) };
         self.last = self.serve;
         self.serve = self.table.after(self.serve);
@@ -244,12 +244,12 @@ impl Controller<'_> {
         self.owed = self.asks;
     }
 
-    /// Whether the last that was sent asked for a report, and none is made yet.
+    /// Whether the last descriptor that was sent asked for a report that is not made yet.
     pub fn owes_report(&self) -> bool {
         self.owed
     }
 
-    /// Reports the last that was sent, and so all before it.
+    /// Reports the last descriptor that was sent, and thereby all before it.
     pub fn report(&mut self) {
         match self.completion {
             Completion::Status => self.table.store(self.last, DD),

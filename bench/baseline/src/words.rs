@@ -1,4 +1,4 @@
-//! The command line, and what both kinds of run share.
+//! The command line, and the parts that all kinds of run share.
 
 use crate::buffer::BUFFER_BYTES;
 use crate::driver::MOST_BATCH;
@@ -13,10 +13,10 @@ pub const USAGE: &str = "usage: baseline ring --ring N --frames N --size BYTES -
        baseline text PAIRS RING WORKERS <SCRIPT
        baseline steps";
 
-/// The first byte of each frame, which the side that receives it reads.
+/// The first byte of each frame. The receiving side reads it.
 const FIRST_BYTE: u8 = 0xab;
 
-/// What passes: through a ring of so many descriptors so many frames, of so many bytes each.
+/// A load: `frames` frames of `size` bytes each, through rings of `ring` descriptors.
 pub struct Load {
     pub ring: usize,
     pub frames: u64,
@@ -30,7 +30,7 @@ impl Load {
         frame
     }
 
-    /// What is read in all frames.
+    /// The tally of all frames.
     pub fn tally(&self) -> Tally {
         Tally {
             frames: self.frames,
@@ -47,7 +47,7 @@ impl Load {
     }
 }
 
-/// What was read: frames, their bytes, and the sum of the first bytes.
+/// A tally of frames that were read: their number, their bytes, and the sum of their first bytes.
 #[derive(Default, PartialEq, Debug)]
 pub struct Tally {
     pub frames: u64,
@@ -56,7 +56,7 @@ pub struct Tally {
 }
 
 impl Tally {
-    /// Reads one more frame.
+    /// Adds one more frame.
     pub fn add(&mut self, frame: &[u8]) {
         self.frames += 1;
         self.bytes += frame.len() as u64;
@@ -64,20 +64,20 @@ impl Tally {
     }
 }
 
-/// What is done with the frames.
+/// The kind of run.
 pub enum Manner {
-    /// They are received; after at most `batch` of them the driver publishes.
+    /// A receive ring. The driver publishes after at most `batch` frames.
     Receive { batch: usize },
-    /// They are transmitted; a report is asked for with each of the number `report`, and with the last.
+    /// A transmit ring. Each `report`th frame asks for a report, and so does the last.
     Transmit {
         report: usize,
         completion: Completion,
     },
-    /// They go through both drivers, and `batch` of them are stored and received at once.
+    /// Both drivers between two rings. `batch` frames are stored and received at once.
     Relay { batch: usize },
-    /// They go through both layers, on one thread or with one for either side.
+    /// Controllers and drivers, on one thread or with a thread for each side.
     Pass { batch: usize, in_threads: bool },
-    /// They are forwarded on so many flows, by as many workers on either side, and the wire is kept or thrown away.
+    /// The forwarder on `flows` flows, with `workers` workers for each side. `keeps`: whether the wire is kept.
     Forward {
         batch: usize,
         flows: usize,
@@ -86,7 +86,7 @@ pub enum Manner {
     },
 }
 
-/// What is run.
+/// The load, and the kind of run.
 pub struct Settings {
     pub load: Load,
     pub manner: Manner,

@@ -1,4 +1,4 @@
-//! Captures in classic pcap, as plain Rust reads and writes them: with the same checks as the proved crate `capture`.
+//! Reads and writes captures in classic pcap, in plain Rust, with the same checks as the proved crate `capture`.
 
 const HEADER: usize = 24;
 const RECORD_HEADER: usize = 16;

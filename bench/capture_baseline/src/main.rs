@@ -1,5 +1,5 @@
-//! How fast plain Rust reads and writes captures: `capture_baseline <frames> <bytes> <rounds>` does what `part_bench
-//! capture` of the repository does, and prints the same lines.
+//! The speed of reading and writing captures in plain Rust: `capture_baseline <frames> <bytes> <rounds>` does the same as
+//! `part_bench capture`, and prints the same lines.
 
 mod capture;
 
@@ -7,7 +7,7 @@ use capture::{Record, read, write, write_header, write_record};
 use std::fs;
 use std::hint::black_box;
 
-// A frame of bytes that look random (Knuth's MMIX constants).
+// A frame of pseudorandom bytes (Knuth's MMIX constants).
 fn fill(frame: &mut [u8], number: u32) {
     let mut state = u64::from(number);
     for byte in frame {
@@ -46,7 +46,7 @@ fn micros() -> u64 {
     status.split(' ').next().unwrap().parse::<u64>().unwrap() / 1000
 }
 
-// The slowest and the fastest round, in MB a second.
+// The slowest and the fastest round, in MB per second.
 fn speeds(rounds: u32, mut round: impl FnMut() -> usize) -> (u64, u64) {
     let (mut slowest, mut fastest) = (u64::MAX, 0);
     for _ in 0..rounds {

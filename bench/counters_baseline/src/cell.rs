@@ -1,5 +1,5 @@
-//! Four numbers under a sequence lock: the steps of the proved cell, each sequentially consistent. The version is
-//! odd while a writer has the words. A reader reads them with no lock, and takes it only where a writer came between.
+//! Four numbers under a sequence lock, with the steps of the proved cell, each sequentially consistent. The version is
+//! odd while a writer writes. A reader reads without a lock, and takes the lock only if a writer interfered.
 
 use std::sync::atomic::{AtomicU64, Ordering::SeqCst};
 use std::{hint, thread};
@@ -11,7 +11,7 @@ pub struct Cell {
     words: [AtomicU64; 4],
 }
 
-/// Waits a little longer each time, and yields in the end.
+/// Waits a little longer each time, and finally yields.
 struct Backoff {
     step: u32,
 }
@@ -43,7 +43,7 @@ impl Cell {
         std::array::from_fn(|i| self.words[i].load(SeqCst))
     }
 
-    /// Takes the lock. The version that is answered is odd.
+    /// Takes the lock. Returns the version, which is odd.
     fn lock(&self) -> (u64, Numbers) {
         let mut backoff = Backoff { step: 0 };
         loop {
@@ -58,7 +58,7 @@ impl Cell {
         }
     }
 
-    /// Writes the numbers, and answers those before.
+    /// Writes the numbers. Returns the previous ones.
     pub fn write(&self, numbers: Numbers) -> Numbers {
         let (version, old) = self.lock();
         for (word, number) in self.words.iter().zip(numbers) {

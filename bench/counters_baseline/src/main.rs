@@ -1,5 +1,5 @@
-//! What it costs to write four numbers and to read them, in plain Rust: the same turns as the program
-//! `part_bench`, over a sequence lock.
+//! The cost of writing and reading four numbers under a sequence lock in plain Rust. It makes the same turns as
+//! `part_bench`.
 
 mod cell;
 

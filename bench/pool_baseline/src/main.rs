@@ -1,5 +1,5 @@
-//! What it costs to take a buffer from a pool and to give it back, in plain Rust: the same turns as the
-//! program `part_bench`, over a queue of boxed buffers.
+//! The cost of taking a buffer from a pool and giving it back, in plain Rust, over a queue of boxed buffers. It makes the
+//! same turns as `part_bench`.
 
 mod queue;
 

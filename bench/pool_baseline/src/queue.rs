@@ -1,5 +1,5 @@
-//! A bounded queue for many producers and many consumers, with a stamp on each slot: the algorithm of
-//! crossbeam's `ArrayQueue`, with its memory orders, written again since that crate was not at hand.
+//! A bounded queue for several producers and consumers, with a stamp on each slot: the algorithm and memory orders of
+//! crossbeam's `ArrayQueue`, without a dependency on that crate.
 
 use std::cell::UnsafeCell;
 use std::hint;

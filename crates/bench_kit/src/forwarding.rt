@@ -1,4 +1,4 @@
-//! The drivers' side of the layers: it sends the packets of a receive queue on a transmit queue.
+//! The drivers of both layers: they send the packets of a receive queue on a transmit queue.
 ghost use Rattle.std.specs.Prelude.{◌≡◌, ◌+◌, ◌<◌, ◌≤◌, length, IfOk, OnOk};
 ghost use Rattle.ring_model.specs.shared.Frames.{frames};
 ghost use Rattle.ring_model.specs.transmit.Ring.{carried};
@@ -17,7 +17,7 @@ use rx_ring::{RxDriverEnd, RxRing};
 use std::alloc::Global;
 use tx_ring::{TxDriverEnd, TxRing};
 
-/// Each 32nd frame asks for a report, and so does the last of each batch.
+/// One in 32 frames asks for a report, and so does the last frame of each batch.
 const REPORT_EVERY: u16 = 32;
 
 /// How many packets a call received and sent on.
@@ -27,7 +27,7 @@ pub struct Moved {
     pub sent: usize,
 }
 
-/// A driver of either direction, the empty buffers, and the packets that were received and not yet sent.
+/// A driver of each direction, the empty buffers, and the packets that were received but not sent yet.
 #[derive(Drop)]
 pub struct Forwarder {
     pub rx: RxDriver,
@@ -53,7 +53,7 @@ impl Forwarder {
         }
     }
 
-    /// Asks for both queues to be enabled, if nothing was asked yet. Returns whether both were seen enabled.
+    /// Asks for both queues to be enabled, unless it has asked already. Returns whether it saw both enabled.
     pub fn enable(&mut self, from: &RxRing, to: &TxRing) -> Result<bool, DriverError>
         requires can { CanForward from.now to.now self.old }
         ensures can { OnOk result (CanForward from.now to.now self.new) }
@@ -63,7 +63,7 @@ impl Forwarder {
         Ok(receives && sends)
     }
 
-    /// Sees that both queues are enabled, after a request and its answer. Refuses if one is not.
+    /// Checks that both queues are enabled, after the request and its answer. Refuses if one is not.
     pub fn see_enabled(&mut self, from: &RxRing, to: &TxRing) -> Result<()>
         requires can { CanForward from.now to.now self.old }
         ensures can { OnOk result (CanForward from.now to.now self.new) }
@@ -94,7 +94,7 @@ impl Forwarder {
         Ok(())
     }
 
-    /// Receives a batch of packets, and sends on the packets at hand.
+    /// Receives a batch of packets, and sends on the packets that are waiting.
     #[inline]
     pub fn forward(&mut self, from: &RxRing, to: &TxRing) -> Result<Moved, DriverError>
         requires can { CanForward from.now to.now self.old }

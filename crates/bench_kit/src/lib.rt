@@ -1,13 +1,13 @@
 //! The common parts of the benchmarks of rings (`rx_bench`, `tx_bench`), of drivers (`driver_bench`) and of both layers
 //! (`layer_bench`).
 //!
-//! `words` parses a command line, `supply` makes the frame and the buffers, `patience` is how a thread waits, and
-//! `tally` sums up the frames that were read. `enabling` enables a queue of either direction, and `storing` and
-//! `fetching` are the device's step at a receive ring and at a transmit ring. `timing` takes the time and prints it,
-//! and `outcome` joins results.
+//! `words` parses a command line, `supply` makes the frame and the buffers, `patience` lets a thread wait, and `tally`
+//! sums up the frames that were read. `enabling` enables a queue of either direction. `storing` and `fetching` are the
+//! device's steps at a receive ring and at a transmit ring. `timing` measures and prints the time, and `outcome`
+//! combines results.
 //!
-//! `track` makes a receive ring and a transmit ring with the drivers of both, which forward in `forwarding`. `meeting`
-//! lets the ends of both rings meet.
+//! `track` makes a receive ring and a transmit ring, with drivers that forward (`forwarding`). `meeting` lets the ends
+//! of both rings meet.
 #![tactic(auto)]
 
 mod enabling;

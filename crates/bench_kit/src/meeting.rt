@@ -1,4 +1,4 @@
-//! The meeting of the ends of both rings between which drivers forward.
+//! Lets the ends of a receive ring and of a transmit ring meet.
 ghost use Rattle.std.specs.Prelude.{◌≡◌};
 ghost use Rattle.bench_kit.specs.Forwarding.{CanForward, HasMet};
 

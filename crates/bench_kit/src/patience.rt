@@ -2,10 +2,10 @@
 
 use std::{hint, thread};
 
-/// The vain tries in a row after which a thread lets another run.
+/// After this many unsuccessful tries in a row, a thread lets another one run.
 const TRIES_BEFORE_YIELD: u32 = 10_000;
 
-/// Counts vain tries.
+/// Counts unsuccessful tries.
 #[derive(Drop)]
 pub struct Patience {
     tries: u32,
@@ -16,7 +16,7 @@ impl Patience {
         Patience { tries: 0 }
     }
 
-    /// Waits a moment after a vain try, and lets another thread run after many. Returns whether it did that.
+    /// Waits a moment after an unsuccessful try. After many, lets another thread run. Returns whether it did that.
     #[inline]
     pub fn wait(&mut self) -> bool {
         if self.tries < TRIES_BEFORE_YIELD {

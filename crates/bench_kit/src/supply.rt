@@ -1,4 +1,4 @@
-//! The frame that a run passes, and its buffers.
+//! Makes the frame that a run passes, and the buffers.
 ghost use Rattle.std.specs.Prelude.{◌≡◌, ◌≤◌, [], length, replicate, IfOk};
 ghost use Rattle.buffer_pool.specs.Stocked.{Shares};
 ghost use Rattle.bench_kit.specs.Copies.{IsFrameLength};

@@ -22,7 +22,7 @@ pub fn since<R: Clock>(rt: &R, start: Instant) -> Result<Duration> {
     Ok(start.elapsed(rt)?)
 }
 
-/// Prints the number of frames and the cost of one. Drops the result.
+/// Prints the number of frames and the cost of a frame. Drops the result.
 pub fn report<T: Drop>(rt: &impl Print, frames: u32, timed: Result<Timed<T>>) -> Result<ExitCode> {
     let nanoseconds = timed?.spent.as_secs_f64() * 1e9 / f64::from(frames);
     println!(rt; "frames {frames}")?;
@@ -31,7 +31,7 @@ pub fn report<T: Drop>(rt: &impl Print, frames: u32, timed: Result<Timed<T>>) ->
     Ok(ExitCode::SUCCESS)
 }
 
-/// Prints the usage on standard error, when the command line asks for nothing. Returns status 2.
+/// Prints the usage on standard error, if the command line is wrong. Returns status 2.
 pub fn refuse(rt: &impl Eprint, usage: &str) -> Result<ExitCode> {
     eprintln!(rt; "{usage}")?;
     Ok(ExitCode::from(2))

@@ -20,7 +20,7 @@ use rx_ring::{RxControllerEnd, RxDriverEnd, RxRing};
 use std::alloc::Global;
 use tx_ring::{TxControllerEnd, TxDriverEnd, TxRing};
 
-/// The two rings between which is forwarded, and the frame.
+/// The two rings, and the frame.
 #[derive(Drop)]
 pub struct Way {
     pub from: RxRing,
@@ -28,7 +28,7 @@ pub struct Way {
     pub frame: Vec<u8>,
 }
 
-/// The controllers' ends of both rings, and the drivers that forward a batch at once.
+/// The controllers' ends of both rings, and the drivers.
 #[derive(Drop)]
 pub struct Parts {
     pub rx: RxControllerEnd,
@@ -36,7 +36,7 @@ pub struct Parts {
     pub forwarder: Forwarder,
 }
 
-/// Two rings and the frame, with both sides of the rings.
+/// Two rings and the frame, with both sides.
 #[derive(Drop)]
 pub struct Track {
     pub way: Way,

@@ -19,7 +19,7 @@
  * Results:
  * - poll82599_..._new, poll82599_decode, poll82599_encode, poll82599_moves and poll82599_once return 0 when it is done. Any other
  *   number is a refusal and leaves handles and bytes as they were.
- * - poll82599_..._close returns how many buffers lay in the ring (poll82599_packets_close: how many packets there were).
+ * - poll82599_..._close returns how many buffers were in the ring (poll82599_packets_close: how many packets there were).
  * - poll82599_..._state and poll82599_..._device_control return a control word, POLL82599_OFF to POLL82599_DISABLE_ASKED.
  * - poll82599_packets_count and poll82599_rx_device_counts return counts.
  * - All other calls return 1 when it is done. 0 means not now, or nothing to do. The other numbers are listed at each call.
@@ -98,10 +98,10 @@ void poll82599_rx_serve(struct poll82599_rx_controller *controller, struct poll8
 int64_t poll82599_rx_close(struct poll82599_rx_driver *driver, struct poll82599_rx_controller *controller);
 
 /* poll82599_rx_new makes a receive ring of `descriptors` descriptors: its driver, which has `buffers` empty buffers, and its controller.
- * The ring is off. Returns 0: done; 1: the length is no power of two from 8 to 4,096; 2: no memory; 3: `buffers` is not 16 to 256.
+ * The ring is off. Returns 0: done; 1: the length is not a power of two from 8 to 4,096; 2: no memory; 3: `buffers` is not 16 to 256.
  * Only 0 changes the handles.
  *
- * poll82599_rx_close frees the ring and all its buffers. Returns how many buffers lay in the ring, or -1 if it has another owner left;
+ * poll82599_rx_close frees the ring and all its buffers. Returns how many buffers were in the ring, or -1 if it has another owner left;
  * both handles are then empty. Returns POLL82599_NOT_CLOSED if a handle is empty or of another kind; the handles then keep
  * what they hold. */
 
@@ -119,7 +119,7 @@ static inline uint32_t poll82599_rx_do(struct poll82599_rx_driver *driver, uint3
  * queue is on. Returns 1: done; 0: no free descriptor, no empty buffer, or a disabling was asked for. */
 static inline uint32_t poll82599_rx_post(struct poll82599_rx_driver *driver) { return poll82599_rx_do(driver, 0); }
 
-/* Stores RDT behind all that is posted (section 7.1.9). Returns 1: done; 0: a disabling was asked for. */
+/* Stores RDT after the last posted descriptor (section 7.1.9). Returns 1: done; 0: a disabling was asked for. */
 static inline uint32_t poll82599_rx_set_tail(struct poll82599_rx_driver *driver) { return poll82599_rx_do(driver, 1); }
 
 /* Takes the next segment, in the order in which they were stored (section 7.1.6.2), and makes its buffer an empty one of the driver
@@ -148,7 +148,7 @@ static inline uint32_t poll82599_rx_state(struct poll82599_rx_driver *driver) { 
 static inline uint32_t poll82599_rx_ask_disable(struct poll82599_rx_driver *driver) { return poll82599_rx_do(driver, 5); }
 
 /* Loads the quiet word. Returns 1: the controller said that it stores no more; 0: it did not. If a later poll82599_rx_poll returns 0
- * or 2, everything that was stored is taken. */
+ * or 2, everything that was stored has been taken. */
 static inline uint32_t poll82599_rx_is_quiet(struct poll82599_rx_driver *driver) { return poll82599_rx_do(driver, 6); }
 
 /* After the driver saw its disabling answered: loads RDH and puts into `*left` how many segments were stored and not taken. The number
@@ -180,15 +180,15 @@ static inline uint32_t poll82599_rx_act(struct poll82599_rx_controller *controll
 }
 
 /* Loads the control word, and answers what the driver asks. Returns 1: an enabling or a disabling is now answered; 0: nothing was asked,
- * or a disabling has to wait until the frame that is begun is complete. */
+ * or a disabling has to wait until the unfinished frame is complete. */
 static inline uint32_t poll82599_rx_answer(struct poll82599_rx_controller *controller)
 {
     static const uint8_t none = 0;
     return poll82599_rx_act(controller, 0, &none, 0, 0);
 }
 
-/* Stores a frame of one segment, 14 to 2,048 bytes, and RDH. Returns 1: done; 0: no descriptor is free; 2: the length is another, or
- * these bytes cannot end the frame that is begun; 3: the queue is off, or was said to be quiet. Only 1 stores anything. */
+/* Stores a frame of one segment, 14 to 2,048 bytes, and RDH. Returns 1: done; 0: no descriptor is free; 2: another length, or
+ * these bytes cannot end the unfinished frame; 3: the queue is off, or was said to be quiet. Only 1 stores anything. */
 static inline uint32_t poll82599_rx_store(struct poll82599_rx_controller *controller, const uint8_t *frame, size_t len)
 {
     return poll82599_rx_act(controller, 1, frame, len, 1);
@@ -202,7 +202,7 @@ static inline uint32_t poll82599_rx_store_segment(struct poll82599_rx_controller
     return poll82599_rx_act(controller, 1, bytes, len, eop);
 }
 
-/* Says that no more is stored until the queue is enabled again. Returns 1: done; 0: the queue is off, or a frame is begun. */
+/* Says that no more is stored until the queue is enabled again. Returns 1: done; 0: the queue is off, or a frame is unfinished. */
 static inline uint32_t poll82599_rx_set_quiet(struct poll82599_rx_controller *controller)
 {
     static const uint8_t none = 0;
@@ -254,7 +254,7 @@ static inline uint32_t poll82599_tx_post(struct poll82599_tx_driver *driver, con
     return poll82599_tx_post_segment(driver, frame, len, 1, 1, len <= POLL82599_MOST_FRAME ? (uint32_t)len : 0);
 }
 
-/* Stores TDT behind all that is posted (section 7.2.3.4). Returns 1: done; 0: a disabling was asked for, or a frame is begun. */
+/* Stores TDT after the last posted descriptor (section 7.2.3.4). Returns 1: done; 0: a disabling was asked for, or a frame is unfinished. */
 static inline uint32_t poll82599_tx_set_tail(struct poll82599_tx_driver *driver) { return poll82599_tx_step(driver, 1); }
 
 /* Loads the oldest report that is outstanding (section 7.2.3.5). Returns 1: it is made, and so are all before it; 0: it is not made, none
@@ -297,7 +297,7 @@ static inline uint32_t poll82599_tx_renew(struct poll82599_tx_driver *driver) { 
 /* ---- The controller's thread. */
 
 /* Loads the control word, and answers what the driver asks. Returns 1: an enabling or a disabling is now answered; 0: nothing was asked,
- * or a disabling has to wait until the frame that is begun is sent. */
+ * or a disabling has to wait until the unfinished frame is sent. */
 static inline uint32_t poll82599_tx_answer(struct poll82599_tx_controller *controller)
 {
     struct poll82599_call call = {0, 0, 0, 0, 0, 0};
@@ -384,7 +384,7 @@ int64_t poll82599_tx_queue_close(struct poll82599_tx_queue *queue, struct poll82
  *
  * poll82599_rx_queue_new makes a receive queue of `descriptors` descriptors. Its driver takes up to `batch` packets at once, 1 to 32.
  * Its device fills buffers to `fill` bytes, 1,024 or 2,048. When too few descriptors are free the device drops a frame if `drop_en` is
- * not 0, and else holds it (SRRCTL.Drop_En). The queue is off. Returns 0: done; 1: the length is no power of two from 8 to 4,096; 2: no
+ * not 0, and else holds it (SRRCTL.Drop_En). The queue is off. Returns 0: done; 1: the length is not a power of two from 8 to 4,096; 2: no
  * memory; 4: `batch` or `fill` is another number.
  *
  * poll82599_tx_queue_new makes a transmit queue, whose driver asks for a report with each `every`th frame, 1 to 4,096, and with the last

@@ -1,9 +1,9 @@
 //! The program `driver_bench`: the cost of a frame through both drivers, between a receive ring and a transmit ring.
 //!
-//! `relaying` does everything on one thread. The device's side are the rings' ends.
+//! `relaying` does everything on one thread. The device uses the rings' ends directly.
 //!
-//! The frames that it counts did pass: at the end the ends of both rings meet, and the frames sent are copies of the
-//! one frame.
+//! All frames that it counts have passed: at the end the two ends of each ring meet, and all frames that were sent are
+//! copies of the one frame.
 #![tactic(auto)]
 
 mod relaying;
@@ -17,11 +17,11 @@ use std::process::ExitCode;
 /// The usage, printed when the command line is wrong.
 const USAGE: &str = "Usage: driver_bench --ring N --frames N --size N --batch N
 
-Passes frames through a receive ring, both drivers and a transmit ring on one thread, and prints what one frame costs.
+Passes frames through a receive ring, both drivers and a transmit ring on one thread. Prints the cost of a frame.
 
-  --ring        the descriptors of each ring, a power of two from 8 to 4096
-  --frames      how many frames are passed, from 1
-  --size        the bytes of each frame, 14 to 2048
+  --ring        descriptors of each ring, a power of two from 8 to 4096
+  --frames      number of frames, from 1
+  --size        bytes of each frame, 14 to 2048
   --batch       how many frames are stored, received and sent at once, 1 to 32
 
 Example:

@@ -1,5 +1,5 @@
-//! Frames through a receive ring, both drivers and a transmit ring, on one thread. The device's side are the rings'
-//! ends.
+//! Passes frames through a receive ring, both drivers and a transmit ring, on one thread. The device uses the rings'
+//! ends directly.
 ghost use Rattle.std.specs.Prelude.{◌<◌, ◌≤◌, length, replicate, IfOk, OnOk};
 ghost use Rattle.limits.specs.RingLength.{IsRingLength};
 ghost use Rattle.bench_kit.specs.Copies.{IsFrameLength};

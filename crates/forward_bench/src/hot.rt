@@ -1,4 +1,4 @@
-//! The hot forward: a few frames come to each flow again and again, and the wires are dropped.
+//! Forwards a few frames on each flow again and again, and drops the wires.
 ghost use Rattle.forwarder.specs.Configs.{IsLawful};
 
 use crate::hot_flow::HotFlow;
@@ -15,7 +15,7 @@ use std::sync::Wait;
 use std::thread::Threads;
 use std::time::{Duration, Instant};
 
-/// How many different frames come to a flow again and again.
+/// The number of different frames that are offered to a flow.
 const FRAMES: usize = 256;
 
 /// Whether all frames of a flow were stored, taken, posted and sent.
@@ -25,7 +25,7 @@ fn all_went(driver: &DriverFlow<'_>, controller: &HotFlow<'_>, count: u64) -> bo
     [tally.stored, counts.taken, counts.posted, sent] == [count; 4]
 }
 
-/// Whether all frames of the load went out, each on its flow.
+/// Whether all frames of the load were sent, each on its flow.
 fn is_whole(served: &Served<DriverFlow<'_>, HotFlow<'_>>, load: &Load) -> bool {
     let sides = served.drivers.iter().zip(served.controllers.iter());
     let mut rest = u64::from(load.frames);
@@ -39,8 +39,8 @@ fn is_whole(served: &Served<DriverFlow<'_>, HotFlow<'_>>, load: &Load) -> bool {
     rest == 0 && served.refusal.is_none()
 }
 
-/// Makes a pool, and rings and both sides of each flow, and lets workers serve them as they serve the forwarder's.
-/// Returns whether all frames went out.
+/// Makes a pool, and the rings and both sides of each flow. Workers serve them as in the forwarder. Returns whether all
+/// frames were sent.
 fn forward_hot<R: Threads + Wait + Sync>(
     rt: &R,
     alloc: Global,
@@ -67,11 +67,11 @@ pub(crate) fn run_hot<R: Threads + Wait + Clock + Sync>(
     load: &Load,
 ) -> Result<Duration> {
     let config = load.config();
-    ensure!(config.is_lawful(), "the configuration is not lawful");
+    ensure!(config.is_lawful(), "the configuration is not valid");
     let frames = load.bytes(alloc, FRAMES)?;
     let start = Instant::now(rt)?;
     let whole = forward_hot(rt, alloc, load, &config, &frames)?;
     let spent = start.elapsed(rt)?;
-    ensure!(whole, "not all frames went out");
+    ensure!(whole, "not all frames were sent");
     Ok(spent)
 }

@@ -1,4 +1,4 @@
-//! Flows whose frames come again and again, and whose wires are dropped.
+//! Flows on which a few frames are offered again and again, and whose wires are dropped.
 ghost use Rattle.std.specs.Prelude.{◌≡◌, ◌&&◌, IfErr};
 ghost use Rattle.flows.specs.Sides.{has_ended};
 ghost use Rattle.refusals.specs.declared.errors.ForwardError.TheVariants.{Memory};
@@ -12,13 +12,13 @@ use std::alloc::Global;
 use std::sync::Wait;
 use tx_ring::{TxControllerEnd, TxRing};
 
-/// The frames after which a new wire begins: before the memory of the old one has to grow, with frames of 1,500 bytes.
+/// A new wire begins after this many frames, before the memory of the old one has to grow (with frames of 1,500 bytes).
 const KEPT: usize = 4;
 
-/// The bytes to which buffers are filled.
+/// The number of bytes to which buffers are filled.
 const FILL: usize = 2_048;
 
-/// The controller's side of a flow: it offers a few frames again and again, and keeps no wire for long.
+/// The controller's side of a flow. It offers a few frames again and again, and drops its wire after a few frames.
 #[derive(Drop)]
 pub(crate) struct HotFlow<'a> {
     from: &'a RxRing,
@@ -34,14 +34,14 @@ pub(crate) struct HotFlow<'a> {
     left: u64,
     alloc: Global,
     wire: Wire,
-    /// How many frames went out.
+    /// How many frames were sent.
     sent: u64,
     ghost stores: { rx.end.table ≡ from.now },
     ghost sends: { tx.table ≡ to.now },
 }
 
 impl<'a> HotFlow<'a> {
-    /// Makes a flow to which `count` frames come, these again and again. The ends must be fresh.
+    /// Makes a flow to which `count` frames are offered, these again and again. The ends must be fresh.
     pub(crate) fn new(
         alloc: Global,
         rings: (&'a RxRing, &'a TxRing),
@@ -69,7 +69,7 @@ impl<'a> HotFlow<'a> {
         }
     }
 
-    /// The tally of the offered frames, and how many frames went out.
+    /// The counts of the offered frames, and the number of frames that were sent.
     pub(crate) fn counts(&self) -> (Tally, u64) {
         (self.rx.tally(), self.sent)
     }
@@ -88,7 +88,7 @@ impl<'a> HotFlow<'a> {
         was != (self.receiving, self.sending)
     }
 
-    /// Offers the next frame. Returns whether it is settled. After the last frame it says that no more comes.
+    /// Offers the next frame, or, after the last one, says that no more comes. Returns whether that succeeded.
     fn offer(&mut self) -> bool {
         if self.receiving != Service::Serving {
             return false;
@@ -113,7 +113,7 @@ impl<'a> HotFlow<'a> {
         true
     }
 
-    /// Sends the next frame. Returns whether there was one. Drops the wire once it has many frames.
+    /// Sends the next frame. Returns whether there was one. Drops the wire once it has `KEPT` frames.
     fn send(&mut self) -> Result<bool, ForwardError>
         ensures { IfErr result (λ e. e ≡ Memory) }
     {

@@ -18,12 +18,12 @@ pub struct Load {
     ring: u32,
     batch: u32,
     workers: u32,
-    /// Whether the wires are kept. Otherwise a few frames come again and again, and the wires are dropped.
+    /// Whether the wires are kept. Otherwise a few frames are offered again and again, and the wires are dropped.
     pub keeps: bool,
 }
 
 impl Load {
-    /// Parses the words after the program's name. The forwarder itself refuses an unlawful configuration.
+    /// Parses the words after the program's name. The forwarder itself refuses an invalid configuration.
     pub fn of(words: &[String]) -> Option<Load> {
         let keeps = match number_of(words, "--keep")? {
             0 => false,
@@ -48,7 +48,7 @@ impl Load {
             && matches!(self.flows, 1 | 2 | 4 | 8 | 16)
     }
 
-    /// The configuration: enough pairs for these flows, but at least one, which has two flows, one for each port.
+    /// The configuration. A queue pair has two flows, one for each port.
     pub fn config(&self) -> Config {
         Config {
             pairs: (self.flows / 2).max(1),
@@ -60,7 +60,7 @@ impl Load {
         }
     }
 
-    /// How many frames flow number `flow` has: none beyond the load's flows.
+    /// The number of frames of flow `flow`.
     pub fn frames_of(&self, flow: usize) -> u64 {
         if self.flows as usize <= flow {
             return 0;
@@ -69,7 +69,7 @@ impl Load {
         u64::from(self.frames / self.flows) + u64::from(more)
     }
 
-    /// The frames as a script, flow by flow in turn, port 0's flows first.
+    /// The frames as a script, for each flow in turn, port 0's flows first.
     pub fn script(&self, alloc: Global) -> Result<Script> {
         let mut frames = Vec::new(alloc);
         for k in 0..self.frames {
@@ -91,7 +91,7 @@ impl Load {
         Ok(frames)
     }
 
-    /// Makes a frame of flow number `flow`.
+    /// Makes a frame of flow `flow`.
     fn frame(&self, alloc: Global, flow: u32) -> Result<WireFrame> {
         let pairs = (self.flows / 2).max(1);
         let (port, queue, size) = (flow / pairs, flow % pairs, self.size as usize);

@@ -1,9 +1,9 @@
-//! The program `forward_bench`: the cost of forwarding a frame; and a soak, which compares the frames that went out
-//! with those that came in.
+//! The program `forward_bench`: the cost of forwarding a frame, and a soak test, which compares the frames that leave
+//! with those that come in.
 //!
-//! It forwards a script of frames of one size, shared out to the flows in turn, and keeps the wires. Or, without a
-//! script, a few frames come to each flow again and again, and the wires are dropped. The time is that of the whole
-//! call, which also makes the pool and the rings, and starts and joins the workers.
+//! It forwards a script of frames of one size, shared out to the flows in turn, and keeps the wires. Or it offers a few
+//! frames to each flow again and again, and drops the wires. The time is that of the whole call, which also makes the
+//! pool and the rings, and starts and joins the workers.
 #![tactic(auto)]
 
 mod hot;
@@ -32,25 +32,25 @@ const USAGE: &str =
     "Usage: forward_bench --ring N --frames N --size N --batch N --flows N --workers N --keep N
        forward_bench --soak N --part N
 
-Forwards so many frames, and prints how long that took. With --soak it forwards them over 4 flows with 2
-workers a side, in parts of so many, and compares what goes out with what comes in: it prints a line for
-each part, and at last how many parts were right.
+Forwards frames and prints the cost of a frame. With --soak, forwards them over 4 flows with 2 workers on each
+side, part by part, and compares the frames that leave with those that come in. Prints a line for each part,
+and finally how many parts were right.
 
   --ring     descriptors of each ring, a power of two from 8 to 4096
-  --frames   how many frames all flows have together, 1 to 1000000
-  --size     bytes of a frame, 14 to 15000
+  --frames   number of frames of all flows together, 1 to 1000000
+  --size     bytes of each frame, 14 to 15000
   --batch    the most packets that a driver takes at once, 1 to 32
-  --flows    how many flows have frames: 1, 2, 4, 8 or 16
-  --workers  threads of each side, 1 to the number of flows; with one flow, to 2
-  --keep     1: a script's frames, and the wires are kept; 0: 256 frames again and again
-  --soak     how many frames are forwarded at least, from 1
-  --part     how many of them at once, 1 to 1000000
+  --flows    number of flows that have frames: 1, 2, 4, 8 or 16
+  --workers  worker threads on each side, 1 to the number of flows; with one flow 1 or 2
+  --keep     1: the frames of a script, wires are kept; 0: 256 frames again and again, wires are dropped
+  --soak     the least number of frames to forward, from 1
+  --part     frames of each part, 1 to 1000000
 
 Examples:
   forward_bench --ring 512 --frames 200000 --size 60 --batch 32 --flows 2 --workers 1 --keep 1
   forward_bench --soak 20000000 --part 500000";
 
-/// Whether all frames of a flow went out.
+/// Whether all frames of a flow were sent.
 fn is_whole(flow: &FlowReport, count: u64) -> bool {
     let counts = [flow.offered, flow.stored, flow.taken, flow.posted];
     counts.iter().all(|number| *number == count)
@@ -58,7 +58,7 @@ fn is_whole(flow: &FlowReport, count: u64) -> bool {
         && flow.ended == Ended::Drained
 }
 
-/// Whether all frames of the load went out, each on its flow.
+/// Whether all frames of the load were sent, each on its flow.
 fn all_went(report: &Report, load: &Load) -> bool {
     let mut rest = u64::from(load.frames);
     for (flow, k) in report.flows.iter().zip(0..load.flows) {
@@ -82,12 +82,12 @@ fn run_script<R: Threads + Wait + Clock + Sync>(
     let start = Instant::now(rt)?;
     let report = forward(rt, alloc, &script, &config, &Open)?;
     let spent = start.elapsed(rt)?;
-    ensure!(all_went(&report, load), "not all frames went out");
+    ensure!(all_went(&report, load), "not all frames were sent");
     Ok(spent)
 }
 
 /// Forwards the load, and prints the cost of a frame.
-fn tell_cost<R: Threads + Wait + Clock + Sync + Print>(
+fn print_cost<R: Threads + Wait + Clock + Sync + Print>(
     rt: &R,
     alloc: Global,
     load: &Load,
@@ -108,7 +108,7 @@ fn tell_cost<R: Threads + Wait + Clock + Sync + Print>(
 fn main(rt: HostRuntime) -> Result<ExitCode> {
     let words: Vec<String> = env::args(&rt)?.skip(1).collect(rt.alloc())?;
     if let Some(load) = Load::of(words.as_slice()) {
-        tell_cost(&rt, rt.alloc(), &load)?;
+        print_cost(&rt, rt.alloc(), &load)?;
         return Ok(ExitCode::SUCCESS);
     }
     let Some(soak) = Soak::of(words.as_slice()) else {

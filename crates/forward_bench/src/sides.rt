@@ -1,4 +1,5 @@
-//! Both sides of hot flows: the forwarder's driver side, and this program's controller side.
+//! Both sides of a flow: the driver's side of the forwarder, and a controller's side that offers a few frames again and
+//! again.
 ghost use Rattle.std.specs.Prelude.{◌≡◌, ℕ, ◌<◌, [], length, vec_len, slice_index_or};
 ghost use Rattle.pool.specs.Owned.{IsOf};
 ghost use Rattle.forwarder.specs.Configs.{IsLawful};
@@ -19,7 +20,7 @@ const SHARE: u32 = 1;
 /// The most buffers of a flow beyond a full receive ring.
 const STASHED: u32 = 255;
 
-/// The frames that come to a flow: these again and again, `count` in all.
+/// The frames that are offered to a flow: these again and again, `count` in all.
 #[derive(Clone, Copy)]
 struct Feed<'a> {
     frames: &'a [Vec<u8>],
@@ -40,7 +41,7 @@ pub(crate) struct Sides<'a> {
     pub controllers: Vec<HotFlow<'a>>,
 }
 
-/// Makes both sides of a flow. Posts as many of its share of the buffers as fit to its receive ring.
+/// Makes both sides of a flow. Posts the flow's share of the buffers to its receive ring, as far as they fit.
 fn make_side<'a, R: Wait>(
     rt: &R,
     alloc: Global,

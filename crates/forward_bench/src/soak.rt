@@ -1,10 +1,9 @@
-//! The soak: many frames are forwarded, part by part, and the frames that went out are compared with those that came
-//! in.
+//! The soak test forwards many frames, part by part, and compares the frames that leave with those that come in.
 //!
-//! Each part forwards the same script over 4 flows, with 2 workers for either side. The parts differ in the rings'
-//! length, in whether frames are dropped or held and packets dropped or kept, and in how a controller reports. The
-//! counts of each flow must add up. Its wire must have frames of the script, touched, in order. If nothing was dropped,
-//! the wire must have as many frames as came in, and their sum.
+//! Each part forwards the same script over 4 flows, with 2 workers on each side. The parts differ in the length of the
+//! rings, in whether frames are dropped or held and packets dropped or kept, and in how a controller reports. Each
+//! flow's counts must add up. Its wire must have frames of the script, touched, in order. If nothing was dropped, the
+//! number and the sum of the frames on the wire must be those of the frames that came in.
 
 mod frames;
 mod parts;

@@ -1,5 +1,5 @@
-//! Frames through both layers: they are offered to a controller, received and sent on by the drivers, and put onto a
-//! wire.
+//! Passes frames through both layers: they are offered to a controller, received and sent on by the drivers, and put
+//! onto a wire.
 ghost use Rattle.std.specs.Prelude.{◌≡◌, true, length, replicate, IfOk, Ok, OnOk};
 ghost use Rattle.ring_model.specs.shared.Handshakes.{is_serving};
 ghost use Rattle.tx_ring.specs.Ends.{controller_state};
@@ -29,7 +29,7 @@ pub struct Gone {
     pub wire: Wire,
 }
 
-/// The controllers serve these rings, and stored nothing but this frame.
+/// The promise of the controllers' thread: they serve these rings, and store nothing but this frame.
 #[derive(Clone, Copy)]
 struct ServesOn<'a>(&'a Way);
 
@@ -63,7 +63,7 @@ pub fn pass_layers<R: Threads + Wait + Clock + Sync>(
     passed
 }
 
-/// Passes the plan's frames. Returns the time, which starts when the queues are enabled and the receive ring is full.
+/// Passes the plan's frames. The time starts when the queues are enabled and the receive ring is full.
 fn pass_run<R: Threads + Wait + Clock + Sync>(
     rt: &R,
     alloc: Global,
@@ -265,7 +265,7 @@ fn failing<T>(stop: &AtomicBool, done: Result<T>) -> Result<T>
     done
 }
 
-/// Offers the frames and serves the wire, until all frames are on it. After a long idle time it looks whether the other
+/// Offers the frames and serves the wire, until all frames are on it. After a long idle time it checks whether the other
 /// side has failed.
 fn serve_until<R: Wait>(
     rt: &R,
@@ -297,7 +297,7 @@ fn serve_until<R: Wait>(
     unreachable!()
 }
 
-/// Forwards until all frames are sent on. After a long idle time it looks whether the other side has failed.
+/// Forwards until all frames are sent on. After a long idle time it checks whether the other side has failed.
 fn forward_until<R: Wait>(
     rt: &R,
     way: &Way,

@@ -1,10 +1,10 @@
 //! The program `layer_bench`: the cost of a frame through both layers above the rings, controllers and drivers.
 //!
-//! `words` parses the command line. In `serving` the device's side are the controllers of both rings. In `layers` they
-//! have their own thread, or share one with the drivers.
+//! `words` parses the command line. `serving` is the device's side: the controllers of both rings. `layers` runs them
+//! in their own thread, or in one thread with the drivers.
 //!
-//! The frames that it counts did pass: at the end the ends of both rings meet, and the frames on the wire are copies of
-//! the one frame.
+//! All frames that it counts have passed: at the end the two ends of each ring meet, and all frames on the wire are
+//! copies of the one frame.
 #![tactic(auto)]
 
 mod layers;

@@ -1,4 +1,4 @@
-//! The device's side of both layers: it offers the frames that come in, and puts the frames that go out onto a wire.
+//! The device's side of both layers: offers incoming frames, and puts outgoing frames onto a wire.
 ghost use Rattle.std.specs.Prelude.{◌≤◌, OnOk, IfOk};
 ghost use Rattle.rx_ring.specs.Calls as receive;
 ghost use Rattle.tx_ring.specs.Calls as transmit;
@@ -10,7 +10,7 @@ use rx_ring::{ControllerEnd, RxControllerEnd, RxRing};
 use std::alloc::Global;
 use tx_ring::{TxControllerEnd, TxRing};
 
-/// The bytes to which buffers are filled.
+/// The number of bytes to which buffers are filled.
 const FILL: usize = 2_048;
 
 /// How many frames were stored, and how many put onto the wire.
@@ -20,7 +20,7 @@ pub struct Served {
     pub sent: u32,
 }
 
-/// A controller of either direction, and the wire.
+/// The controllers of both directions, and the wire.
 #[derive(Drop)]
 pub struct Device {
     pub rx: RxController,
@@ -52,7 +52,7 @@ impl Device {
         self.tx.turn_control(to);
     }
 
-    /// Offers a batch of the frames that are left, until one is not stored, and then puts a batch onto the wire.
+    /// Offers a batch of the remaining frames, until one is not stored. Then puts a batch onto the wire.
     #[inline]
     pub fn serve(&mut self, way: &Way, plan: BatchPlan, left: u32) -> Result<Served, CtlError>
         requires serves { Serves way.now.from way.now.to way.now.frame.items self.old }

@@ -15,14 +15,14 @@ pub enum Threading {
 /// The usage, printed when the command line is wrong.
 pub const USAGE: &str = "Usage: layer_bench --ring N --frames N --size N --batch N --threads 1|2
 
-Passes frames through controllers and drivers of a receive ring and of a transmit ring onto a wire, and prints what one
-frame costs.
+Passes frames through the controllers and drivers of a receive ring and a transmit ring to a wire. Prints the cost of a
+frame.
 
-  --ring        the descriptors of each ring, a power of two from 8 to 4096
-  --frames      how many frames are passed, from 1
-  --size        the bytes of each frame, 14 to 2048
-  --batch       how many frames are offered, received and put onto the wire at once, 1 to 32
-  --threads     1, or 2 where controllers and drivers have a thread each
+  --ring        descriptors of each ring, a power of two from 8 to 4096
+  --frames      number of frames, from 1
+  --size        bytes of each frame, 14 to 2048
+  --batch       how many frames are offered, received and sent at once, 1 to 32
+  --threads     1: one thread for all; 2: a thread for the controllers and a thread for the drivers
 
 Example:
   layer_bench --ring 512 --frames 1000000 --size 60 --batch 32 --threads 2";

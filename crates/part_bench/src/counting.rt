@@ -1,4 +1,4 @@
-//! The cost of writing and reading the numbers of a cell.
+//! The cost of writing and reading a counter cell.
 
 mod measured;
 
@@ -10,7 +10,7 @@ use std::rt::Clock;
 use std::sync::Wait;
 use std::thread::Threads;
 
-/// Prints the cost of a write and, if there are readers, of a read of each of them.
+/// Prints the cost of a write and, if there are readers, of a read.
 pub fn run_writes<R>(rt: &R, alloc: Global, writes: u32, readers: u32) -> Result<()>
 where
     R: Threads + Wait + Clock + Print + Sync,

@@ -1,16 +1,15 @@
-//! The program `part_bench`: the cost of parts beside the rings. It is run by hand, and by scripts in `bench/` beside
-//! plain Rust.
+//! The program `part_bench`: the cost of parts other than the rings. Scripts in `bench/` compare it with plain Rust.
 //!
-//! With `--writes` one thread writes the numbers of a cell, while `--readers` others read until they see the last
-//! write. The time is that of all threads. With `--reads` one thread reads alone.
+//! With `--writes` one thread writes a counter cell, while `--readers` threads read it until they see the last write.
+//! The time is that of all threads. With `--reads` one thread reads a cell without a writer.
 //!
-//! With `--threads` each thread takes `--buffers` buffers of one pool and gives them back, once one by one and once in
-//! batches of 32 through a stash. The time is that of all threads, divided by the buffers of one. With `--packets` it
-//! prints the cost of taking a packet from the front of a list of 32.
+//! With `--threads` each thread takes `--buffers` buffers from one pool and gives them back, first one by one, then in
+//! batches of 32 through a stash. The time is that of all threads, divided by the buffers of one thread. `--packets`
+//! measures taking a packet from the front of a list of 32.
 //!
-//! `script` makes a script of FRAMES frames of BYTES bytes each, and reads and writes it ROUNDS times. `capture` does
-//! so with a capture. It prints how many bytes a frame the process grows by a reading, and the slowest and the fastest
-//! round in MB of text a second of processor time.
+//! `script` makes a script of FRAMES frames of BYTES bytes each, and reads and writes it ROUNDS times; `capture` does
+//! the same with a capture. They print by how many bytes per frame reading enlarges the process, and the slowest and
+//! the fastest round in MB of text per second of processor time.
 #![tactic(auto)]
 
 mod counting;
@@ -36,19 +35,18 @@ const USAGE: &str = "Usage: part_bench --writes N --readers N
        part_bench --packets N
        part_bench script|capture FRAMES BYTES ROUNDS
 
-Writes the numbers of a cell beside threads that read them, or reads them beside nobody; takes buffers from
-one pool and gives them back, or packets from the front of a list of 32; reads and writes a script or a
-capture. It prints what one of them costs, and of a text how fast that was.
+Measures writing and reading a counter cell, taking buffers from a pool and giving them back, taking packets
+from the front of a list of 32, or reading and writing a script or a capture.
 
-  --writes   how often one thread writes, from 1
-  --readers  how many threads read meanwhile: 0 to 3
-  --reads    how often one thread reads, from 1
-  --threads  how many threads: 1, 2 or 4
-  --buffers  how many buffers each thread takes and gives, from 1
-  --packets  how many packets are taken, from 1
-  FRAMES     how many frames the text has, 1 to 1000000
-  BYTES      bytes of a frame, 14 to 15000
-  ROUNDS     how often it is read and written, from 1
+  --writes   how many times one thread writes the cell, from 1
+  --readers  how many threads read it meanwhile, 0 to 3
+  --reads    how many times one thread reads the cell without a writer, from 1
+  --threads  how many threads use the pool: 1, 2 or 4
+  --buffers  how many buffers each thread takes and gives back, from 1
+  --packets  how many packets are taken from the list, from 1
+  FRAMES     number of frames, 1 to 1000000
+  BYTES      bytes of each frame, 14 to 15000
+  ROUNDS     how many times the script or capture is read and written, from 1
 
 Examples:
   part_bench --writes 1000000 --readers 2

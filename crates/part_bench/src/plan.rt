@@ -11,7 +11,7 @@ pub enum Subject {
 }
 
 impl Subject {
-    /// Its word on the command line.
+    /// The word for it on the command line.
     pub fn name(self) -> &'static str {
         match self {
             Subject::Script => "script",
@@ -19,16 +19,16 @@ impl Subject {
         }
     }
 
-    /// The words for the unit in which its memory is printed.
+    /// What its memory is printed per.
     pub fn per_frame(self) -> &'static str {
         match self {
-            Subject::Script => "a frame beside its own",
-            Subject::Capture => "a record",
+            Subject::Script => "per frame, without the bytes of the frame",
+            Subject::Capture => "per record",
         }
     }
 }
 
-/// Which text is read and written, and in how many rounds.
+/// The text to read and write, and the number of rounds.
 #[derive(Clone, Copy)]
 pub struct TextPlan {
     pub subject: Subject,
@@ -38,7 +38,7 @@ pub struct TextPlan {
 }
 
 impl TextPlan {
-    /// The bytes of each frame that the reading copies: none of a capture, which borrows them.
+    /// The bytes of each frame that reading copies. Reading a capture copies none.
     pub fn own(self) -> u64 {
         match self.subject {
             Subject::Script => self.length as u64,

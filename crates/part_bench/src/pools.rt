@@ -41,9 +41,12 @@ where
 /// Prints the cost of a packet.
 pub fn run_lists<R: Clock + Print>(rt: &R, packets: u32) -> Result<()> {
     let (lean, rows) = compared(rt, packets)?;
-    println!(rt; "packet ns/packet {:.1}", each(lean, f64::from(packets)))?;
     println!(rt;
-        "row of buffers ns/packet {:.1}",
+        "list of packets: {:.1} ns/packet",
+        each(lean, f64::from(packets))
+    )?;
+    println!(rt;
+        "list of rows of buffers: {:.1} ns/packet",
         each(rows, f64::from(packets))
     )?;
     Ok(())

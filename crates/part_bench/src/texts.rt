@@ -25,7 +25,7 @@ fn bytes_of(alloc: Global, plan: TextPlan) -> Result<Vec<u8>> {
     }
 }
 
-fn tell_size<R: Print>(rt: &R, plan: TextPlan, length: usize) -> Result<()> {
+fn print_size<R: Print>(rt: &R, plan: TextPlan, length: usize) -> Result<()> {
     println!(rt;
         "{}: {} frames, {length} bytes",
         plan.subject.name(),
@@ -34,12 +34,12 @@ fn tell_size<R: Print>(rt: &R, plan: TextPlan, length: usize) -> Result<()> {
     Ok(())
 }
 
-fn tell_memory<R: Print>(rt: &R, plan: TextPlan, grown: u64) -> Result<()> {
+fn print_memory<R: Print>(rt: &R, plan: TextPlan, grown: u64) -> Result<()> {
     println!(rt; "memory: {grown} bytes {}", plan.subject.per_frame())?;
     Ok(())
 }
 
-fn tell_speed<R: Print>(rt: &R, name: &str, speed: Speed) -> Result<()> {
+fn print_speed<R: Print>(rt: &R, name: &str, speed: Speed) -> Result<()> {
     println!(rt; "{name}: {} to {} MB/s", speed.slowest, speed.fastest)?;
     Ok(())
 }
@@ -58,11 +58,11 @@ fn measure<R: Files + CpuClock + Print + AllocGlobal>(
     plan: TextPlan,
     bytes: &[u8],
 ) -> Result<()> {
-    tell_size(rt, plan, bytes.len())?;
+    print_size(rt, plan, bytes.len())?;
     let costs = costs(rt, plan, bytes)?;
-    tell_memory(rt, plan, costs.grown.saturating_sub(plan.own()))?;
-    tell_speed(rt, "read", costs.read)?;
-    tell_speed(rt, "written", costs.written)
+    print_memory(rt, plan, costs.grown.saturating_sub(plan.own()))?;
+    print_speed(rt, "read", costs.read)?;
+    print_speed(rt, "written", costs.written)
 }
 
 /// Makes the plan's text, and measures it.

@@ -1,10 +1,10 @@
 //! The program `rx_bench`: the cost of a frame through a receive ring that two threads share.
 //!
 //! `storing` and `taking` are the threads of the controller and the driver. `passing` makes the ring, runs both and
-//! takes the time.
+//! measures the time.
 //!
-//! The frames that it counts did pass: at the end the two ends meet, and the driver's record has that many frames, each
-//! byte for byte the frame that the controller was given.
+//! All frames that it counts have passed: at the end the two ends meet, and the driver's record has that many frames,
+//! each byte for byte the frame that the controller stored.
 #![tactic(auto)]
 
 mod passing;
@@ -20,13 +20,12 @@ use std::process::ExitCode;
 /// The usage, printed when the command line is wrong.
 const USAGE: &str = "Usage: rx_bench --ring N --frames N --size N --batch N
 
-Passes frames through a receive ring with a thread at each end, and prints what one frame costs. The driver publishes the
-buffers that it posted again once a batch.
+Passes frames through a receive ring with a thread at each end. Prints the cost of a frame.
 
-  --ring        the descriptors of the ring, a power of two from 8 to 4096
-  --frames      how many frames are passed, from 1
-  --size        the bytes of each frame, 14 to 2048
-  --batch       after how many frames at most the driver publishes, 1 to 4096
+  --ring        descriptors of the ring, a power of two from 8 to 4096
+  --frames      number of frames, from 1
+  --size        bytes of each frame, 14 to 2048
+  --batch       the driver publishes posted buffers after at most this many frames, 1 to 4096
 
 Example:
   rx_bench --ring 512 --frames 1000000 --size 60 --batch 32";

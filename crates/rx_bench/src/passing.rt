@@ -1,4 +1,4 @@
-//! Makes a receive ring, runs its two ends in threads of their own, and takes the time.
+//! Makes a receive ring, runs each end in its own thread, and measures the time.
 ghost use Rattle.std.specs.Prelude.{◌≡◌, ◌≤◌, length, replicate, IfOk};
 ghost use Rattle.limits.specs.RingLength.{IsRingLength};
 ghost use Rattle.rx_ring.specs.Calls.{IsFreshDriver};
@@ -49,7 +49,7 @@ struct Passage {
     controller: RxControllerEnd,
 }
 
-/// The controller stores nothing but this frame at this ring.
+/// The promise of the controller's thread: it stores nothing but this frame at this ring.
 #[derive(Clone, Copy)]
 struct StoresOnly<'a>(&'a RxRing, &'a [u8]);
 

@@ -10,7 +10,7 @@ use std::marker::Model;
 pub struct Course {
     plan: TxPlan,
     posted: u32,
-    // the last of this many more frames asks for a report
+    // how many frames remain up to the next that asks for a report
     until: u32,
 }
 

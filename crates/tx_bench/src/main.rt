@@ -1,10 +1,10 @@
 //! The program `tx_bench`: the cost of a frame through a transmit ring that two threads share.
 //!
 //! `words` parses the command line. `posting` is the driver's thread, with `asking` for the reports. `fetching` is the
-//! controller's thread. `sending` makes the ring, runs both and takes the time.
+//! controller's thread. `sending` makes the ring, runs both and measures the time.
 //!
-//! The frames that it counts did pass: at the end the two ends meet, and the controller's record has that many frames,
-//! each byte for byte the frame that the driver was given. All that was posted is cleaned.
+//! All frames that it counts have passed: at the end the two ends meet, and the controller's record has that many
+//! frames, each byte for byte the frame that the driver posted. All posted descriptors are cleaned.
 #![tactic(auto)]
 
 mod asking;

@@ -1,4 +1,4 @@
-//! Makes a transmit ring, runs its two ends in threads of their own, and takes the time.
+//! Makes a transmit ring, runs each end in its own thread, and measures the time.
 ghost use Rattle.std.specs.Prelude.{◌≡◌, ◌≤◌, [], length, replicate, IfOk};
 ghost use Rattle.buffer_pool.specs.Stocked.{Shares};
 ghost use Rattle.bench_kit.specs.Enabling.{CanServe};
@@ -56,7 +56,7 @@ struct Dispatch {
     sent: Transmission,
 }
 
-/// The controller serves this ring and reports in this way, and owes no report.
+/// The promise of the controller's thread: it serves this ring, reports in this way, and owes no report.
 #[derive(Clone, Copy)]
 struct Serves<'a>(&'a TxRing, Completion);
 

@@ -7,7 +7,7 @@ use ring_model::Completion;
 #[derive(Clone, Copy)]
 pub struct TxPlan {
     pub load: Load,
-    /// Each frame of this number asks for a report, and so does the last frame.
+    /// One in this many frames asks for a report, and so does the last frame.
     pub report: u32,
     pub completion: Completion,
 }
@@ -16,13 +16,13 @@ pub struct TxPlan {
 pub const USAGE: &str =
     "Usage: tx_bench --ring N --frames N --size N --report N --completion status|head
 
-Passes frames through a transmit ring with a thread at each end, and prints what one frame costs.
+Passes frames through a transmit ring with a thread at each end. Prints the cost of a frame.
 
-  --ring        the descriptors of the ring, a power of two from 8 to 4096
-  --frames      how many frames are passed, from 1
-  --size        the bytes of each frame, 14 to 2048
-  --report      how many frames one report covers, from 1 to the ring's descriptors less one
-  --completion  how frames are reported as sent: by their descriptors, or by the head
+  --ring        descriptors of the ring, a power of two from 8 to 4096
+  --frames      number of frames, from 1
+  --size        bytes of each frame, 14 to 2048
+  --report      frames per report, from 1 to the number of descriptors minus one
+  --completion  how sent frames are reported: status, in their descriptors; head, by the head
 
 Example:
   tx_bench --ring 512 --frames 1000000 --size 60 --report 32 --completion status";

@@ -1,4 +1,4 @@
-//! The frames that come in, and sums of those that go out.
+//! The frames that come in, and sums of the frames that leave.
 
 use anyhow::{Result, ensure};
 use controller::Wire;

@@ -1,4 +1,4 @@
-//! One part of a soak.
+//! One part of the soak test.
 
 use crate::soak::seen::Seen;
 use anyhow::Result;
@@ -10,7 +10,7 @@ use std::thread::Threads;
 use tx_ring::Completion;
 use wire_script::Script;
 
-/// The configuration of a part: 24 in turn.
+/// The configuration of a part. There are 24, used in turn.
 fn config_of(part: u32) -> Config {
     let ring = match part / 8 % 3 {
         0 => 64,

@@ -10,7 +10,7 @@ use std::sync::Wait;
 use std::thread::{Threads, join};
 use std::time::{Duration, Instant};
 
-/// The numbers after `frames` frames, all of which were stored.
+/// The counts after `frames` frames, if all of them were stored.
 fn all_stored(frames: u64) -> Offered
     ensures { result ≡ record { offered = frames; stored = frames; dropped = 0; oversize = 0 } }
 {
@@ -32,7 +32,7 @@ pub fn reads_alone<R: Wait + Clock>(rt: &R, alloc: Global, reads: u32) -> Result
     Ok(start.elapsed(rt)?)
 }
 
-/// Times `writes` writes beside up to three readers. Also returns how often these read.
+/// Times `writes` writes with up to three readers. Also returns the number of their reads.
 pub fn writes_beside<R: Threads + Wait + Clock + Sync>(
     rt: &R,
     alloc: Global,
@@ -45,7 +45,7 @@ pub fn writes_beside<R: Threads + Wait + Clock + Sync>(
     Ok((start.elapsed(rt)?, reads))
 }
 
-/// Writes `writes` times beside up to three readers. Returns how often these read.
+/// Writes `writes` times with up to three readers. Returns the number of their reads.
 fn write_beside<R: Threads + Wait + Sync>(
     rt: &R,
     cell: &StatCell,
@@ -100,7 +100,7 @@ fn read_in<R: Threads + Wait + Sync>(
     one.saturating_add(others)
 }
 
-/// Writes `writes` times, each time with one frame more.
+/// Writes `writes` times, each time with one more frame.
 fn write_all<R: Wait>(rt: &R, cell: &StatCell, mut pen: StatPen, writes: u32)
     requires own { pen.cell ≡ cell.now }
     requires opening { pen.last ≡ none_offered }

@@ -11,7 +11,7 @@ const LIST: usize = 32;
 /// A packet with its buffers in the list itself, for comparison.
 type Row = ArrayVec<Buf, 15>;
 
-/// Times taking `turns` packets from the front and appending each again, and then the same with rows of buffers.
+/// Times taking `turns` packets from the front and appending each again. Then does the same with rows of buffers.
 pub fn compared<R: Clock>(rt: &R, turns: u32) -> Result<(Duration, Duration)> {
     let mut packets: ArrayVec<Packet, LIST> = full();
     let mut rows: ArrayVec<Row, LIST> = full();

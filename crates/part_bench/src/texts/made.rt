@@ -1,5 +1,5 @@
-//! The texts to measure: a script or a capture. Its room is reserved at once, so that making it leaves no gaps in
-//! memory that reading could fill.
+//! The texts to measure: a script or a capture. The memory is reserved at once, so that making it leaves no gaps that
+//! reading could fill.
 
 ghost use Rattle.std.specs.Prelude.{◌≤◌};
 ghost use Rattle.limits.specs.declared.profile.TheConstants.{LEAST_FRAME, MOST_FRAME};
@@ -10,7 +10,7 @@ use limits::{MOST_FRAME, MOST_PAIRS, PORTS};
 use std::alloc::Global;
 use wire_script::print_line;
 
-// The next of a sequence of pseudorandom numbers (Knuth's MMIX constants).
+// The next pseudorandom number (Knuth's MMIX constants).
 fn next(state: u64) -> u64 {
     state
         .wrapping_mul(6_364_136_223_846_793_005)

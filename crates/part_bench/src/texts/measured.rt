@@ -6,7 +6,7 @@ use std::fs;
 use std::rt::Files;
 use std::time::CpuClock;
 
-/// The slowest and the fastest of some rounds, in MB of text a second.
+/// The slowest and the fastest of some rounds, in MB of text per second.
 #[derive(Clone, Copy)]
 pub struct Speed {
     pub slowest: u64,
@@ -21,7 +21,7 @@ impl Speed {
         }
     }
 
-    // Bytes in a microsecond are megabytes in a second.
+    // Bytes per microsecond are megabytes per second.
     fn add(&mut self, bytes: usize, micros: u64) {
         let speed = bytes as u64 / micros.max(1);
         self.slowest = self.slowest.min(speed);
@@ -29,7 +29,7 @@ impl Speed {
     }
 }
 
-/// How many bytes a frame the process grows, and how fast it reads and writes.
+/// By how many bytes per frame reading enlarges the process, and the speed of reading and writing.
 #[derive(Clone, Copy)]
 pub struct Costs {
     pub grown: u64,
@@ -43,7 +43,7 @@ fn pages_in(status: &str) -> Option<u64> {
     pages.parse::<u64>().ok()
 }
 
-// The memory that the process has in use, in bytes.
+// The resident memory of the process, in bytes.
 fn resident<R: Files + AllocGlobal>(rt: &R) -> Result<u64> {
     let status = fs::read_to_string(rt, "/proc/self/statm")?;
     let pages = pages_in(status.as_str()).context("no resident pages")?;
@@ -55,7 +55,7 @@ fn micros(rt: &impl CpuClock) -> Result<u64> {
     Ok(u64::try_from(rt.thread_cpu_time()?.as_micros())?)
 }
 
-// How many bytes a frame the process grows when it reads a text, without the text itself. Includes the allocator's own
+// By how many bytes per frame reading enlarges the process, without the text itself. Includes the allocator's own
 // memory and rounding to pages.
 fn growth<'a, R: Files + AllocGlobal, T: Text<'a>>(rt: &R, bytes: &'a [u8]) -> Result<u64> {
     let before = resident(rt)?;
