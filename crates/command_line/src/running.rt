@@ -79,7 +79,17 @@ pub fn run<
     match asked_of(alloc, words) {
         Ok(Asked::Request(request)) => answer(rt, alloc, request, input, output, faults, explain),
         Ok(Asked::Forward { config, printing }) => forward(
-            rt, alloc, words, &config, printing, input, is_terminal, output, faults, screen, explain,
+            rt,
+            alloc,
+            words,
+            &config,
+            printing,
+            input,
+            is_terminal,
+            output,
+            faults,
+            screen,
+            explain,
         ),
         Ok(Asked::Capture(request)) => {
             forward_command::piped::answer(alloc, request, input, output, faults, screen, explain)

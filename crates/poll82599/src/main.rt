@@ -11,8 +11,8 @@ use command_line::run;
 use commands::{Refusal, refuse};
 use pipe::{Faults, GONE, Output};
 use std::cell::Cell;
-use std::process::ExitCode;
 use std::io::IsTerminal;
+use std::process::ExitCode;
 use std::rt::Env;
 use std::{env, io};
 

@@ -113,15 +113,7 @@ fn serve<
             note_cuts(screen, config.turns, explain, why.as_str());
             DONE
         }
-        Err(refused) => tell(
-            faults,
-            config,
-            intake.sources,
-            wires,
-            refused,
-            why,
-            explain,
-        ),
+        Err(refused) => tell(faults, config, intake.sources, wires, refused, why, explain),
     }
 }
 

@@ -13,9 +13,7 @@ ghost use Rattle.limits.specs.declared.profile.TheConstants.{MOST_PAIRS, PORTS};
 use crate::explaining::{explain_capture, explain_script};
 use crate::piped::flow_lines::pass_flows;
 use crate::piped::request::CaptureRequest;
-use capture::{
-    Capture, CaptureError, ReadOptions, Skipped, capture_of, lines_at, read_with,
-};
+use capture::{Capture, CaptureError, ReadOptions, Skipped, capture_of, lines_at, read_with};
 use commands::{Refusal, read_text};
 use std::alloc::Global;
 use std::io::Read;

@@ -16,7 +16,9 @@ pub enum CaptureRequest {
         reading: ReadOptions,
     },
     /// Writes the frames of this port, 0 or 1, as a capture.
-    ToCapture { port: u8 },
+    ToCapture {
+        port: u8,
+    },
 }
 
 impl CaptureRequest {

@@ -319,10 +319,7 @@ const NO_CAPTURE: &str = "--skip and --limit need --capture";
 const NO_SOURCES: &[(&[&str], &str)] = &[
     (&["forward", "--skip"], NO_CAPTURE),
     (&["forward", "--limit", "1"], NO_CAPTURE),
-    (
-        &["forward", "--skip", "--capture", "2:0=x.pcap"],
-        SOURCE,
-    ),
+    (&["forward", "--skip", "--capture", "2:0=x.pcap"], SOURCE),
     (&["forward", "--capture", "2:0=x.pcap"], SOURCE),
     (&["forward", "--capture", "0:8=x.pcap"], SOURCE),
     (&["forward", "--capture", "0:0="], SOURCE),

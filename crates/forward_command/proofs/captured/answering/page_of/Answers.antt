@@ -16,7 +16,7 @@ returns-clause-page g c =
     (λ p is. page-of c.args.config.now to c.args.intake.now (g.I.Read.remaining c.args.input.now) c.in_ok-script.script c.in_ok-script.skipped.items flows
     p.0.items c.in_ok-script.ensures.script c.in_ok-report.ensures.report
     (is ∙ ap₂ (λ (flows : List FlowReport) (skipped : List Skipped).
-        output_bytes c.args.printing (streamed_port c.args.wires.now) c.args.config.now.pairs flows (skipped_text c.args.printing.json c.args.intake.now.reading.skip skipped))
+    output_bytes c.args.printing (streamed_port c.args.wires.now) c.args.config.now.pairs flows (skipped_text c.args.printing.json c.args.intake.now.reading.skip skipped))
     c.as_slice-flows.ensures.value c.as_slice.ensures.value)) c.page_for-page.ensures.page
 
 pub returns-clause-refused : goal.returns-clause-refused
