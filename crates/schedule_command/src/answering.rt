@@ -104,7 +104,8 @@ fn print_page<W: Write>(
 {
     let content = contents_of(alloc, request)?;
     let page = page_with(alloc, content.as_str())?;
-    print(page.as_str(), output)
+    print(page.as_str(), output)?;
+    Ok(())
 }
 
 // The data of all lists, joined.
