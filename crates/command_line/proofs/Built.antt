@@ -76,12 +76,12 @@ abbrev pub choices_at : ℕ → List Entry → Choices
 choices_at k entries = get_or (map choices_of (flat_map (λ entry. entry.params.now) entries)) k (record { ref_ptr = (0, 0); now = [] })
 
 -- with all its commands, wherever the choices of `decode` lie
-pub program_is : {E : Type 0} → (entries : List Entry) (program : Result Command E) → let rings = choices_at 1 entries in let formats = choices_at 2 entries in
+pub program_is : {E : Type 0} → (entries : List Entry) (program : Result Command E) → let rings = choices_at 2 entries in let formats = choices_at 3 entries in
     with_entries entries ≡ program_app rings formats → map (λ word. word.now) rings.now ≡ codes "rx" ∷ codes "tx" ∷ []
     → map (λ word. word.now) formats.now ≡ codes "read" ∷ codes "back" ∷ [] → IfOk program (IsJoined entries) → IfOk program (λ p. IsProgram (app_of p))
 program_is entries (Ok p) same rings_are formats_are is = record {
-  rings = choices_at 1 entries;
-  formats = choices_at 2 entries;
+  rings = choices_at 2 entries;
+  formats = choices_at 3 entries;
   rings_are = rings_are;
   formats_are = formats_are;
   app_is = is.app_is ∙ same;

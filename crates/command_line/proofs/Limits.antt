@@ -1,6 +1,6 @@
 -- What words say of a limit, and how captures are read.
-use Rattle.std.proofs.Common.{◌≡◌, ◌∙◌, ap, ap₂, sym, refl, arith, ℕ, Bool, true, false, ◌&&◌, List, [], ◌∷◌, codes, length, Option, Some, None, option_map}
-use Rattle.std.specs.Prelude.{◌||◌, ◌==◌, decimal, is_some}
+use Rattle.std.proofs.Common.{◌≡◌, ◌∙◌, ap, ap₂, sym, refl, arith, ℕ, Bool, true, false, List, [], codes, Option, Some, None, option_map}
+use Rattle.std.specs.Prelude.{decimal}
 use Rattle.clap.specs.Words.{Text}
 use Rattle.capture.specs.declared.options.ReadOptions.{ReadOptions}
 use Rattle.forward_command.specs.Words.{SourceFile}
@@ -29,10 +29,6 @@ limit_value (Some n) fits = reads_itself n fits
 -- options, from their parts
 pub reading_is : (reading : ReadOptions) (s : Bool) (l : Option ℕ) → s ≡ reading.skip → l ≡ reading.limit → ◌≡◌ {A = ReadOptions} (record { skip = s; limit = l }) reading
 reading_is reading s l skip_is limit_is = rw (skip_is, limit_is) refl
-
-pub lacks-captures : (sources : List SourceFile) (reading : ReadOptions) → (length sources == 0 && (reading.skip || is_some reading.limit)) ≡ lacks_captures sources reading
-lacks-captures [] reading = refl
-lacks-captures (s ∷ ss) reading = refl
 
 -- files with captures to read, where there are none
 pub never-lacks : (held sources : List SourceFile) (given reading : ReadOptions) → held ≡ sources → given ≡ reading → lacks_captures sources reading ≡ false

@@ -59,7 +59,7 @@ fn entry_of(name: &str) -> Option<&'static Entry<'static>> {
 /// Completes an error of `clap` in these words. An error about a value, which shows no usage, gets the command's. If
 /// the value is not a number in the range of its option, the error also gets the option's help, which states the range.
 pub(crate) fn completed(alloc: Global, words: &[String], error: Error) -> Error
-    ensures { (kind_of result ≡ kind_of error.entry) ⊎ (kind_of result ≡ OutOfMemory) }
+    ensures { (kind_of result ≡ kind_of error) ⊎ (kind_of result ≡ OutOfMemory) }
 {
     let kind = error.kind();
     let Some(name) = words.first() else {
