@@ -69,9 +69,14 @@ pub record PrintsCover (r : CoverRequest) (old new : Option (List ℕ)) : Type 0
   pub receive : Prints (receive_scope r) r.expect old between
   pub transmit : Prints (transmit_scope r) r.expect between new
 
+-- `replay` refuses this text on the queues of this scope.
+pub record IsUnreplayed (s : Scope) (text : List ℕ) (e : Refusal) : Type 0 where
+  pub form : Shown
+  pub why : RefusesReplay (queues_of s form) (Some text) e
+
 -- Why a list was not printed: memory was refused, or `replay` refuses its text.
 abbrev pub NotPrinted : Scope → CoverList → Refusal → Type 0
-NotPrinted s l e = (e ≡ refusal.Memory) ⊎ ((form : Shown) × RefusesReplay (queues_of s form) (Some (list_text l)) e)
+NotPrinted s l e = (e ≡ refusal.Memory) ⊎ IsUnreplayed s (list_text l) e
 
 -- Fewer lists are printed: memory is refused, a list cannot be made, or the output fails.
 abbrev pub Refuses : Scope → Refusal → Type 0

@@ -1,7 +1,8 @@
 //! The text of one list.
 ghost use Rattle.std.specs.Prelude.{◌≡◌, ◌++◌, IfErr, IfOk, OnOk};
 ghost use Rattle.std.specs.String.{string_bytes};
-ghost use Rattle.cover_command.specs.Covers.{IsText, NotPrinted, list_text, move_lines, queues_of};
+ghost use Rattle.cover_command.specs.Covers.{IsText, IsUnreplayed, NotPrinted, list_text, move_lines, queues_of};
+ghost use Rattle.schedule_command.specs.Lists.{Follows};
 
 use commands::{QueuePlan, Refusal, Shown, replay_text};
 use coverage::{CoverList, Scope};
@@ -54,10 +55,23 @@ pub(crate) fn list_of(
     ensures refused { IfErr result (NotPrinted scope list.now) }
 {
     let mut text = text_of(alloc, list)?;
-    if let Some(shown) = expect {
-        let queues = queues_of(scope, shown);
-        let expected = replay_text(alloc, queues, &mut text.as_bytes())?;
-        text.push_str(expected.as_str())?;
-    }
+    let more = expected_of(alloc, scope, expect, text.as_str())?;
+    text.push_str(more.as_str())?;
     Ok(text)
+}
+
+// The output of `replay` for a list in this form, or nothing.
+fn expected_of(
+    alloc: Global,
+    scope: Scope,
+    expect: Option<Shown>,
+    list: &str,
+) -> Result<String, Refusal>
+    ensures done { IfOk result (λ more. Follows expect (queues_of scope) list.now (string_bytes more)) }
+    ensures refused { IfErr result (IsUnreplayed scope list.now) }
+{
+    match expect {
+        Some(shown) => replay_text(alloc, queues_of(scope, shown), &mut list.as_bytes()),
+        None => Ok(String::new(alloc)),
+    }
 }
