@@ -1,5 +1,5 @@
 -- What follows, step by step, of a command that is built, and of a program.
-use Rattle.std.proofs.Common.{◌≡◌, ◌∙◌, ◌+◌, ◌<◌, ◌≤◌, ap, ap₂, codes, get_or, length, List, [], ◌∷◌, map, ℕ, subst, sym, take, false}
+use Rattle.std.proofs.Common.{◌≡◌, ◌∙◌, ◌+◌, ◌<◌, ◌≤◌, ap, ap₂, codes, refl, get_or, length, List, [], ◌∷◌, map, ℕ, subst, sym, take, false}
 use Rattle.std.specs.Prelude.{Result, Ok, Err, IfOk}
 use Rattle.std.specs.List.{flat_map}
 use Rattle.std.proofs.lemmas.List.{map_more, take_all, take_more}
@@ -8,7 +8,7 @@ use Rattle.clap.specs.Words.{App, Rule, Text, app_of, new_app, with_rule, with_s
 use Rattle.clap.specs.declared.builder.command.Command.{Command}
 use Rattle.clap.specs.declared.builder.command.Command.TheViews.{out-Command}
 use Rattle.command_line.specs.Building.{Grows, IsJoined, IsNew, Joins, entry_app, with_entries}
-use Rattle.command_line.specs.CommandLine.{Choices, IsProgram, bare_app, program_app}
+use Rattle.command_line.specs.CommandLine.{Choices, IsBeginning, IsProgram, bare_app, beginning_app, program_app}
 use Rattle.command_line.specs.OptionWords.{with_rules}
 use Rattle.command_line.specs.Params.{rule_for}
 use Rattle.command_line.specs.declared.arguments.Param.{Param}
@@ -43,29 +43,29 @@ joins E F program command p c new is has shape =
     let made : Result Command E = Ok p in
     subst (λ (r : Result Command E). Joins r command new) (sym is) (subst (λ (r : Result Command F). Joins made r new) (sym has) shape)
 
--- with no command it is bare
-pub begun : {E : Type 0} → (program : Result Command E) → IfOk program (λ p. app_of p ≡ bare_app) → IfOk program (IsJoined [])
-begun (Ok p) is = record { app_is = is }
-begun (Err e) is = tt
+-- with no command more
+pub begun : {E : Type 0} → (start : App) (program : Result Command E) → IfOk program (λ p. app_of p ≡ start) → IfOk program (IsJoined start [])
+begun start (Ok p) is = record { app_is = is }
+begun start (Err e) is = tt
 
 -- with one more, of a list of entries
-pub one-entry : {E F G : Type 0} → (entries : List Entry) (k : ℕ) (d : Entry) (program : Result Command E) (command : Result Command F) (next : Result Command G)
-    → k < length entries → IfOk program (IsJoined (take k entries)) → IfOk command (IsNew (entry_app (get_or entries k d))) → IfOk next (Joins program command)
-    → IfOk next (IsJoined (take (k + 1) entries))
-one-entry entries k d (Ok p) (Ok c) (Ok n) low before is joins = record {
+pub one-entry : {E F G : Type 0} → (start : App) (entries : List Entry) (k : ℕ) (d : Entry) (program : Result Command E) (command : Result Command F) (next : Result Command G)
+    → k < length entries → IfOk program (IsJoined start (take k entries)) → IfOk command (IsNew (entry_app (get_or entries k d))) → IfOk next (Joins program command)
+    → IfOk next (IsJoined start (take (k + 1) entries))
+one-entry start entries k d (Ok p) (Ok c) (Ok n) low before is joins = record {
   app_is = joins is.local
       ∙ (ap₂ with_subcommand before.app_is (ap (λ (app : App). app.top) is.app_is)
-      ∙ (sym (fold_push (λ (app : App) (entry : Entry). with_subcommand app (entry_app entry).top) bare_app (take k entries) (get_or entries k d))
-      ∙ sym (ap with_entries (take_more entries k d low))));
+      ∙ (sym (fold_push (λ (app : App) (entry : Entry). with_subcommand app (entry_app entry).top) start (take k entries) (get_or entries k d))
+      ∙ sym (ap (with_entries start) (take_more entries k d low))));
 }
-one-entry entries k d program command (Err e) low before is joins = tt
-one-entry entries k d (Err e) command (Ok n) low before is joins = absurd joins
-one-entry entries k d (Ok p) (Err e) (Ok n) low before is joins = absurd joins
+one-entry start entries k d program command (Err e) low before is joins = tt
+one-entry start entries k d (Err e) command (Ok n) low before is joins = absurd joins
+one-entry start entries k d (Ok p) (Err e) (Ok n) low before is joins = absurd joins
 
 -- at last with all of them
-pub all-entries : {E : Type 0} → (entries : List Entry) (k : ℕ) (program : Result Command E) → length entries ≤ k → IfOk program (IsJoined (take k entries))
-    → IfOk program (IsJoined entries)
-all-entries entries k program end before = subst (λ (es : List Entry). IfOk program (IsJoined es)) (take_all k entries end) before
+pub all-entries : {E : Type 0} → (start : App) (entries : List Entry) (k : ℕ) (program : Result Command E) → length entries ≤ k → IfOk program (IsJoined start (take k entries))
+    → IfOk program (IsJoined start entries)
+all-entries start entries k program end before = subst (λ (es : List Entry). IfOk program (IsJoined start es)) (take_all k entries end) before
 
 -- the choices of an argument, and of the kth of all commands
 abbrev choices_of : Param → Choices
@@ -75,15 +75,41 @@ choices_of _ = record { ref_ptr = (0, 0); now = [] }
 abbrev pub choices_at : ℕ → List Entry → Choices
 choices_at k entries = get_or (map choices_of (flat_map (λ entry. entry.params.now) entries)) k (record { ref_ptr = (0, 0); now = [] })
 
--- with all its commands, wherever the choices of `decode` lie
-pub program_is : {E : Type 0} → (entries : List Entry) (program : Result Command E) → let rings = choices_at 2 entries in let formats = choices_at 3 entries in
-    with_entries entries ≡ program_app rings formats → map (λ word. word.now) rings.now ≡ codes "rx" ∷ codes "tx" ∷ []
-    → map (λ word. word.now) formats.now ≡ codes "read" ∷ codes "back" ∷ [] → IfOk program (IsJoined entries) → IfOk program (λ p. IsProgram (app_of p))
-program_is entries (Ok p) same rings_are formats_are is = record {
+-- with its first commands, wherever the choices of `decode` lie
+pub beginning_is : {E : Type 0} → (entries : List Entry) (program : Result Command E) → let rings = choices_at 2 entries in let formats = choices_at 3 entries in
+    with_entries bare_app entries ≡ beginning_app rings formats → map (λ word. word.now) rings.now ≡ codes "rx" ∷ codes "tx" ∷ []
+    → map (λ word. word.now) formats.now ≡ codes "read" ∷ codes "back" ∷ [] → IfOk program (IsJoined bare_app entries) → IfOk program (λ p. IsBeginning (app_of p))
+beginning_is entries (Ok p) same rings_are formats_are is = record {
   rings = choices_at 2 entries;
   formats = choices_at 3 entries;
   rings_are = rings_are;
   formats_are = formats_are;
   app_is = is.app_is ∙ same;
 }
-program_is entries (Err e) same rings_are formats_are is = tt
+beginning_is entries (Err e) same rings_are formats_are is = tt
+
+-- choices with these words, at any address
+abbrev choices : List Text → Choices
+choices words = record { ref_ptr = (0, 0); now = map (λ (word : Text). record { ref_ptr = (0, 0); now = word }) words }
+
+-- with all its commands; of a beginning that failed nothing is asked
+pub program_is : {E F : Type 0} → (entries : List Entry) (begun : Result Command F) (program : Result Command E)
+    → ((rings formats : Choices) → with_entries (beginning_app rings formats) entries ≡ program_app rings formats)
+    → IfOk begun (λ c. IsBeginning (app_of c)) → ((app : App) → IfOk begun (λ c. app_of c ≡ app) → IfOk program (IsJoined app entries))
+    → IfOk program (λ p. IsProgram (app_of p))
+program_is entries (Ok b) (Ok p) same is joined = record {
+  rings = is.rings;
+  formats = is.formats;
+  rings_are = is.rings_are;
+  formats_are = is.formats_are;
+  app_is = (joined (beginning_app is.rings is.formats) is.app_is).app_is ∙ same is.rings is.formats;
+}
+program_is entries (Err e) (Ok p) same is joined = record {
+  rings = choices (codes "rx" ∷ codes "tx" ∷ []);
+  formats = choices (codes "read" ∷ codes "back" ∷ []);
+  rings_are = refl;
+  formats_are = refl;
+  app_is = (joined (beginning_app (choices (codes "rx" ∷ codes "tx" ∷ [])) (choices (codes "read" ∷ codes "back" ∷ []))) tt).app_is
+      ∙ same (choices (codes "rx" ∷ codes "tx" ∷ [])) (choices (codes "read" ∷ codes "back" ∷ []));
+}
+program_is entries begun (Err e) same is joined = tt

@@ -1,5 +1,5 @@
 -- What words say, whichever the command is: clap takes them and finds it, and the run that they lead to ends as it has to.
-use Rattle.std.proofs.Common.{◌≡◌, ◌∙◌, ap, inr, refl, subst, true, false, ℕ, Bool, List, Option, Some, None}
+use Rattle.std.proofs.Common.{◌≡◌, ◌∙◌, ap, inr, refl, subst, suc, zero, true, false, ℕ, Bool, List, Option, Some, None}
 use Rattle.std.specs.Prelude.{Result, Ok, Err}
 use Rattle.std.specs.Io.KnownBytes.{Keeps}
 use Rattle.clap.specs.Words.{App, Row, Text, subcommand_of, takes}

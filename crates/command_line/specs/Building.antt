@@ -3,7 +3,6 @@ use Rattle.std.specs.Prelude.{◌≡◌, false, List, fold, map, Result, IsOkAnd
 use Rattle.clap.specs.Words.{App, Rule, app_of, with_rule, with_subcommand}
 use Rattle.clap.specs.declared.builder.command.Command.{Command}
 use Rattle.clap.specs.declared.builder.command.Command.TheViews.{out-Command}
-use Rattle.command_line.specs.CommandLine.{bare_app}
 use Rattle.command_line.specs.OptionWords.{with_rules}
 use Rattle.command_line.specs.Params.{rule_for}
 use Rattle.command_line.specs.declared.building.Entry.{Entry}
@@ -12,12 +11,12 @@ use Rattle.command_line.specs.declared.building.Entry.{Entry}
 abbrev pub entry_app : Entry → App
 entry_app entry = with_rules entry.name.now (map rule_for entry.params.now)
 
--- the program with the commands of entries
-abbrev pub with_entries : List Entry → App
-with_entries entries = fold (λ app entry. with_subcommand app (entry_app entry).top) bare_app entries
+-- a program with the commands of entries added
+abbrev pub with_entries : App → List Entry → App
+with_entries start entries = fold (λ app entry. with_subcommand app (entry_app entry).top) start entries
 
-pub record IsJoined (entries : List Entry) (command : Command) : Type 0 where
-  pub app_is : app_of command ≡ with_entries entries
+pub record IsJoined (start : App) (entries : List Entry) (command : Command) : Type 0 where
+  pub app_is : app_of command ≡ with_entries start entries
 
 -- a command is this one, and has no global option
 pub record IsNew (app : App) (command : Command) : Type 0 where

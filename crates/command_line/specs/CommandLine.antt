@@ -79,6 +79,10 @@ forward_app = with_rules (codes "forward") (number_rule (codes "pairs") (codes "
     ∷ explain_rule
     ∷ [])
 
+-- the program with its first commands
+abbrev pub beginning_app : Choices → Choices → App
+beginning_app rings formats = fold (λ app command. with_subcommand app command.top) bare_app (once_app ∷ decode_app rings formats ∷ replay_app ∷ [])
+
 -- the program with its commands
 abbrev pub program_app : Choices → Choices → App
 program_app rings formats = fold (λ app command. with_subcommand app command.top) bare_app (once_app
@@ -97,6 +101,14 @@ pub record IsProgram (app : App) : Type 0 where
   pub rings_are : map (λ word. word.now) rings.now ≡ codes "rx" ∷ codes "tx" ∷ []
   pub formats_are : map (λ word. word.now) formats.now ≡ codes "read" ∷ codes "back" ∷ []
   pub app_is : app ≡ program_app rings formats
+
+-- the same for the program with its first commands
+pub record IsBeginning (app : App) : Type 0 where
+  pub rings : Choices
+  pub formats : Choices
+  pub rings_are : map (λ word. word.now) rings.now ≡ codes "rx" ∷ codes "tx" ∷ []
+  pub formats_are : map (λ word. word.now) formats.now ≡ codes "read" ∷ codes "back" ∷ []
+  pub app_is : app ≡ beginning_app rings formats
 
 -- the words are `once` and its argument, which does not begin with a hyphen
 pub record SaysOnce (words : List Text) (digits : Text) : Type 0 where

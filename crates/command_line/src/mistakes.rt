@@ -5,7 +5,7 @@ ghost use Rattle.clap.specs.declared.error.kind.ErrorKind.TheVariants.{OutOfMemo
 
 use crate::arguments::Param;
 use crate::building::{Entry, made};
-use crate::program::{COMMANDS, program};
+use crate::program::{FIRST, SECOND, program};
 use clap::error::ErrorKind;
 use clap::{Command, Error};
 use std::alloc::{AllocError, Global};
@@ -48,7 +48,25 @@ fn named<'a>(alloc: Global, name: &str) -> Result<Command<'a>, AllocError> {
 
 /// Returns the entry of the command with this name.
 fn entry_of(name: &str) -> Option<&'static Entry<'static>> {
-    for entry in COMMANDS {
+    match first_entry(name) {
+        Some(entry) => Some(entry),
+        None => second_entry(name),
+    }
+}
+
+/// Returns the entry, if it is in the first list.
+fn first_entry(name: &str) -> Option<&'static Entry<'static>> {
+    entry_in(FIRST, name)
+}
+
+/// Returns the entry, if it is in the second list.
+fn second_entry(name: &str) -> Option<&'static Entry<'static>> {
+    entry_in(SECOND, name)
+}
+
+/// Returns the entry with this name among these.
+fn entry_in(entries: &'static [Entry<'static>], name: &str) -> Option<&'static Entry<'static>> {
+    for entry in entries {
         if entry.name == name {
             return Some(entry);
         }

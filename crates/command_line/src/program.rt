@@ -1,8 +1,8 @@
 //! The program's commands and their parameters.
 ghost use Rattle.std.specs.Prelude.{◌≡◌, IfOk};
-ghost use Rattle.clap.specs.Words.{app_of};
+ghost use Rattle.clap.specs.Words.{App, app_of};
 ghost use Rattle.command_line.specs.Building.{IsJoined};
-ghost use Rattle.command_line.specs.CommandLine.{IsProgram, bare_app};
+ghost use Rattle.command_line.specs.CommandLine.{IsBeginning, IsProgram, bare_app};
 
 use crate::arguments::Param;
 use crate::building::{Entry, having, made};
@@ -49,7 +49,7 @@ const EXPLAIN: Param = Param::Flag {
 };
 
 /// The commands, each with its parameters.
-pub(crate) const COMMANDS: &[Entry] = &[
+pub(crate) const FIRST: &[Entry] = &[
     Entry {
         name: "once",
         about: "Pass one frame through a receive ring of 8 descriptors and print it",
@@ -118,6 +118,10 @@ pub(crate) const COMMANDS: &[Entry] = &[
             EXPLAIN,
         ],
     },
+];
+
+/// The commands that forward or convert frames, or print lists of moves.
+pub(crate) const SECOND: &[Entry] = &[
     Entry {
         name: "forward",
         about: "Forward the frames of a script between two ports, and print the frames that left and the counts of each flow. The script is read from standard input, one frame per line; with --capture, only if standard input is not a terminal and no capture",
@@ -300,18 +304,30 @@ pub(crate) const COMMANDS: &[Entry] = &[
     },
 ];
 
-/// Builds the program with all its commands.
+/// Builds the program with all its commands. Each half is added by a function of its own, because the prover writes out
+/// the list of a function whole.
 pub(crate) fn program<'a>(alloc: Global) -> Result<Command<'a>, AllocError>
     ensures { IfOk result (λ c. IsProgram (app_of c)) }
 {
-    joined(alloc, COMMANDS)
+    joined(alloc, beginning(alloc), SECOND)
 }
 
-/// Builds the program with these commands.
-fn joined<'a>(alloc: Global, entries: &[Entry<'a>]) -> Result<Command<'a>, AllocError>
-    ensures { IfOk result (IsJoined entries.now) }
+/// Builds the program with its first commands.
+fn beginning<'a>(alloc: Global) -> Result<Command<'a>, AllocError>
+    ensures { IfOk result (λ c. IsBeginning (app_of c)) }
 {
-    let mut program = bare(alloc);
+    joined(alloc, bare(alloc), FIRST)
+}
+
+/// Adds these commands to a program.
+fn joined<'a>(
+    alloc: Global,
+    start: Result<Command<'a>, AllocError>,
+    entries: &[Entry<'a>],
+) -> Result<Command<'a>, AllocError>
+    ensures { (app : App) → IfOk start.entry (λ c. app_of c ≡ app) → IfOk result (IsJoined app entries.now) }
+{
+    let mut program = start;
     for entry in entries {
         program = having(program, made(alloc, entry));
     }
