@@ -63,7 +63,7 @@ impl Arena {
         Ok(())
     }
 
-    /// Appends these bytes to the frame that is begun.
+    /// Appends these bytes to the unfinished frame.
     #[inline]
     pub(crate) fn append(&mut self, bytes: &[u8])
         requires { length bytes.now ≤ self.old.room }
@@ -77,7 +77,7 @@ impl Arena {
         };
     }
 
-    /// Ends the frame that is begun.
+    /// Ends the unfinished frame.
     #[inline]
     pub(crate) fn end_frame(&mut self)
         requires { 0 < self.old.entries }

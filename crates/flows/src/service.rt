@@ -1,10 +1,10 @@
-//! How far a controller is with a queue.
+//! The state of a controller that serves a queue.
 ghost use Rattle.std.specs.Prelude.{◌≡◌, true, false};
 ghost use Rattle.flows.specs.Served.{after, decides};
 
 use controller::Offer;
 
-/// How far a controller is with a queue, of which it serves one epoch.
+/// The state of a controller that serves a queue for one epoch.
 #[derive(Clone, Copy, Debug, PartialEq, Eq)]
 pub enum Service {
     /// The enabling was not answered yet.

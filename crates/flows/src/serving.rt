@@ -54,7 +54,7 @@ fn deal_flows<F: Flow>(flows: Vec<F>, hands: Vec<Vec<F>>) -> Vec<Vec<F>>
 }
 
 /// Serves both sides of all flows by `workers` workers a side, flow `f` by worker `f mod workers`, until all are over
-/// or a refusal is met. Joins every worker that was started before it returns, and reports the first refusal that
+/// or one of them is refused. Joins every worker that was started before it returns, and reports the first refusal that
 /// stopped the others. Returns all flows, even after a refusal.
 #[tactic(auto, using(crate::proofs::Dealing::memory_halted))]
 pub fn serve_flows<D: Flow, C: Flow, R: Threads + Wait + Sync, G: Gate + Sync>(

@@ -109,7 +109,7 @@ fn serve_sides<'a, R: Threads + Wait + Sync, G: Gate + Sync>(
     )
 }
 
-/// Serves all flows over these rings until they are over, or a refusal is met.
+/// Serves all flows over these rings until they are over, or one of them is refused.
 #[tactic(auto, using(flows::proofs::Dealing::memory_halted))]
 pub(crate) fn run_flows<R: Threads + Wait + Sync, G: Gate + Sync>(
     rt: &R,

@@ -21,7 +21,7 @@ pub fn flag_word(yes: bool) -> u32
     if yes { 1 } else { 0 }
 }
 
-/// Copies `bytes` to the beginning of `room`, and leaves the rest as it was.
+/// Copies `bytes` to the beginning of `room`, and leaves the rest unchanged.
 #[inline]
 pub fn overwrite(room: &mut [u8], bytes: &[u8])
     requires { length bytes.now ≤ length room.old }

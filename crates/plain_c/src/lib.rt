@@ -2,7 +2,7 @@
 //! of queues, and one frame passed through a ring. Depends on `descriptor`, `commands` and the crates of the rings. It
 //! is part of the static library of `poll82599_c`, whose header declares its exports.
 //!
-//! No export keeps anything between calls. An export that refuses leaves the bytes that it writes as they were.
+//! No export keeps anything between calls. An export that refuses leaves the bytes that it would write unchanged.
 #![tactic(auto)]
 
 mod descriptors;

@@ -21,7 +21,7 @@ pub struct Poll82599Plan {
     pub json: u32,
 }
 
-/// How many bytes the moves print, and the number of the first line that is no move, counted from 1.
+/// How many bytes the moves print, and the number of the first line that is not a move, counted from 1.
 #[repr(C)]
 #[derive(Clone, Copy)]
 pub struct Poll82599Moved {
@@ -31,7 +31,7 @@ pub struct Poll82599Moved {
 
 /// Makes the moves of a text, one per line, on new queues, and writes their output, a line or an object each, to the
 /// beginning of `page`. Any thread may call it. Returns 0: done; 1: `page` has fewer bytes than `needed`, which is set
-/// with 0 and 1; or the number of a refusal: 14: the line `line` is no move; 12: such queues cannot exist; others:
+/// with 0 and 1; or the number of a refusal: 14: the line `line` is not a move; 12: such queues cannot exist; others:
 /// memory was refused. Only 0 changes the page.
 #[unsafe(no_mangle)]
 pub extern "C" fn poll82599_moves(

@@ -80,7 +80,7 @@ impl Handle {
     }
 }
 
-/// Takes the objects of two handles. If either is empty, returns nothing and leaves both as they were.
+/// Takes the objects of two handles. If either is empty, returns nothing and leaves both unchanged.
 pub(crate) fn take_both(
     alloc: Global,
     one: &mut Handle,

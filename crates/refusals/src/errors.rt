@@ -37,13 +37,13 @@ impl DescError {
 /// Why a machine is not made, a move is not read, or a step is not made.
 #[derive(Clone, Copy, Debug, PartialEq, Eq, Error)]
 pub enum MachineError {
-    /// The step cannot happen now, or there is no such queue. The machine is as it was.
+    /// The step cannot happen now, or there is no such queue. The machine is unchanged.
     NotEnabled = 11,
-    /// The length is no power of two from 8 to 4,096, or the number of pairs is not 1 to 8.
+    /// The length is not a power of two from 8 to 4,096, or the number of pairs is not 1 to 8.
     RingLength = 12,
     /// Memory was refused.
     Memory = 13,
-    /// The text is no move.
+    /// The text is not a move.
     Text = 14,
 }
 
@@ -77,7 +77,7 @@ impl fmt::Display for MachineError {
 /// Why a call on a ring was refused.
 #[derive(Clone, Copy, Debug, PartialEq, Eq, Error)]
 pub enum RingError {
-    /// The ring's length is no power of two from 8 to 4,096.
+    /// The ring's length is not a power of two from 8 to 4,096.
     #[error("ring length")]
     RingLength = 21,
     /// Memory was refused.
@@ -275,8 +275,8 @@ pub enum ScriptError {
     /// The queue is not one digit from `0` to `7`.
     #[error("queue")]
     Queue { line: u64 },
-    /// The frame's bytes are no pairs of hex digits; or the length after `fill` is no decimal number of 1 to 5 digits
-    /// without leading zero, or its byte is not two hex digits.
+    /// The frame's bytes are not pairs of hex digits; or the length after `fill` is not a decimal number of 1 to 5 digits
+    /// without a leading zero, or its byte is not two hex digits.
     #[error("bytes")]
     Bytes { line: u64 },
     /// The frame's length is outside [`LEAST_FRAME`](limits::LEAST_FRAME) to [`MOST_FRAME`](limits::MOST_FRAME).

@@ -24,7 +24,7 @@ pub struct Ran<D: Drop, C: Drop> {
     pub refusal: Option<ForwardError>,
 }
 
-/// Serves each hand by a worker in a thread of its own, until all flows are over or a refusal is met, and joins every
+/// Serves each hand by a worker in a thread of its own, until all flows are over or one of them is refused, and joins every
 /// worker that was started. Reports the first refusal that set the stop word: `Memory` if an allocation was refused,
 /// `Thread` if a thread could not be started, or the refusal of a flow's turn. All flows come back, including those of
 /// a worker that could not be started.

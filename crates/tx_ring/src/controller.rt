@@ -69,7 +69,7 @@ impl TxControllerEnd {
     }
 
     /// Loads the next descriptor and takes its buffer. Returns the buffer with the posted bytes, and the contents of
-    /// the descriptor. Once a frame is begun, all of its descriptors are known to be ready.
+    /// the descriptor. While a frame is unfinished, all of its descriptors are known to be ready.
     #[inline]
     pub fn fetch(&mut self, ring: &TxRing) -> (Buf, TxRead)
         requires own { self.old.table ≡ ring.now }

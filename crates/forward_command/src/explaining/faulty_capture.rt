@@ -37,7 +37,7 @@ pub(crate) fn explain_capture(
     }
 }
 
-/// Explains why bytes are no capture.
+/// Explains why bytes are not a capture.
 fn explain_format(why: &mut String, bytes: &[u8]) -> Result<(), AllocError> {
     let shown = bytes.get(..MAGIC).unwrap_or(bytes);
     write!(

@@ -16,7 +16,7 @@ pub(crate) type TxDevice = Half<TxRing, TxController>;
 impl Half<TxRing, TxController> {
     /// Sends the next frame into `room`, at least 15,000 bytes, and reports it if it asks for a report. Returns 1 and
     /// its length: sent; 0: none is ready; 3: the queue is off; 4: `room` is too small; 5: memory was refused; 6 and
-    /// its length: sent, but longer than `room`, which stays as it was. Only 1 and 6 send anything.
+    /// its length: sent, but longer than `room`, which is unchanged. Only 1 and 6 send anything.
     pub(crate) fn turn(&mut self, alloc: Global, room: &mut [u8]) -> Found
         ensures own { self.new.table ≡ self.old.table }
         ensures step { TriedTurn result.answer result.count room.old room.new self.old self.new }

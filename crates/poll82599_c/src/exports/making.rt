@@ -18,7 +18,7 @@ use opaque::is_set;
 use std::alloc::Global;
 
 /// Makes a receive ring of `descriptors` descriptors: its driver with `buffers` empty buffers, and its controller.
-/// Returns 0: done; 1: the length is no power of two from 8 to 4,096; 2: memory was refused; 3: `buffers` is not 16 to
+/// Returns 0: done; 1: the length is not a power of two from 8 to 4,096; 2: memory was refused; 3: `buffers` is not 16 to
 /// 256. Only 0 changes the handles, which must be empty.
 #[unsafe(no_mangle)]
 pub extern "C" fn poll82599_rx_new(
@@ -65,7 +65,7 @@ pub extern "C" fn poll82599_tx_new(
 
 /// Makes a receive queue of `descriptors` descriptors. Its driver takes up to `batch` packets at once. Its device fills
 /// buffers to `fill` bytes. If too few descriptors are free, it drops a frame, or holds it if `drop_en` is 0. Returns
-/// 0: done; 1: the length is no power of two from 8 to 4,096; 2: memory was refused; 4: `batch` is not 1 to 32, or
+/// 0: done; 1: the length is not a power of two from 8 to 4,096; 2: memory was refused; 4: `batch` is not 1 to 32, or
 /// `fill` is not 1,024 or 2,048. Only 0 changes the handles, which must be empty.
 #[unsafe(no_mangle)]
 pub extern "C" fn poll82599_rx_queue_new(
@@ -93,7 +93,7 @@ pub extern "C" fn poll82599_rx_queue_new(
 
 /// Makes a transmit queue of `descriptors` descriptors, and its device. The queue reports by DD in its descriptors, or
 /// by a head word if `by_head` is not 0. Its driver asks for a report with each `every`th frame. Returns 0: done; 1:
-/// the length is no power of two from 8 to 4,096; 2: memory was refused; 4: `every` is not 1 to 4,096. Only 0 changes
+/// the length is not a power of two from 8 to 4,096; 2: memory was refused; 4: `every` is not 1 to 4,096. Only 0 changes
 /// the handles, which must be empty.
 #[unsafe(no_mangle)]
 pub extern "C" fn poll82599_tx_queue_new(

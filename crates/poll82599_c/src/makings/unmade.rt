@@ -7,7 +7,7 @@ use shared_ring::RingError;
 /// The reason why an export made no end, queue or worker's packets.
 #[derive(Drop)]
 pub(crate) enum Unmade {
-    /// The ring's length is no power of two from 8 to 4,096.
+    /// The ring's length is not a power of two from 8 to 4,096.
     Length,
     /// Memory was refused.
     Memory,
