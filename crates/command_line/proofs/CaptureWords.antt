@@ -1,19 +1,27 @@
 -- What clap makes of `from-capture` and `to-capture` and their places.
-use Rattle.std.proofs.Common.{◌≡◌, ◌∙◌, ◌+◌, ap, ap₂, sym, refl, arith, ℕ, suc, zero, Bool, true, false, List, [], ◌∷◌, ◌++◌, codes, Option, Some, None, option_map}
+use Rattle.std.proofs.Common.{◌≡◌, ◌∙◌, ◌+◌, ap, ap₂, sym, refl, arith, ℕ, suc, zero, pos, Bool, true, false, ◌&&◌, List, [], ◌∷◌, ◌++◌, codes, slice_index_or, Option, Some, None, option_map}
+use Rattle.std.specs.List.{list_all}
 use Rattle.std.specs.Prelude.{◌<◌, IsSomeAnd, decimal, Result, Ok, Err}
 use Rattle.std.specs.Str.Parse.{ExplainsUnsignedError, HasUnsignedDigitsIfOk, ParsesUnsigned}
 use Rattle.std.proofs.lemmas.Fmt.{decimal_digit, parse-decimal}
-use Rattle.clap.specs.Words.{App, ReadsOne, Row, Text, one_of, one_text, rows_of, subcommand_of, takes}
+use Rattle.clap.specs.Simple.{Shape, new_shape}
+use Rattle.clap.specs.Takes.{default_passes, is_valid, level_passes, settle_passes, step_passes, word_passes}
+use Rattle.clap.specs.ValueTests.{accepts}
+use Rattle.clap.specs.Walk.{Held, Step, Walk, after_step, finished, nothing_held, option, plain_word, walk, word_met}
+use Rattle.clap.specs.Words.{App, ReadsOne, Row, Text, built, one_of, one_text, rows_of, subcommand_of, takes, without_minus}
 use Rattle.clap.specs.Values.{bool_text}
+use Rattle.clap.specs.declared.builder.value_parser.ValueParser.TheVariants.{Signed}
 use Rattle.clap.specs.declared.parser.matches.Found.{Found}
 use Rattle.clap.proofs.OnLiterals.{clap_on_literals}
 use Rattle.limits.specs.declared.profile.TheConstants.{MOST_PAIRS, PORTS}
 use Rattle.command_line.specs.CaptureWords.{HasFromCapture, HasPlace, HasToCapture, SaysFromCapture, SaysToCapture}
 use Rattle.capture.specs.declared.options.ReadOptions.{ReadOptions}
 use Rattle.command_line.specs.OptionWords.{flag_words}
-use Rattle.command_line.specs.ReadingWords.{IsLimit}
+use Rattle.command_line.specs.ReadingWords.{IsLimit, limit_words}
 use Rattle.command_line.specs.CommandLine.{Choices, IsProgram, program_app}
-use Rattle.command_line.proofs.CommandLine.{is_there, rows_in, text_is}
+use Rattle.command_line.proofs.CommandLine.{IsNumber, is_number, is_there, rows_in, text_is}
+use Rattle.command_line.proofs.OptionLists.{IsCommand, command_found, command_taken, reads_itself}
+use Rattle.command_line.proofs.Options.{plain_read, plain_read_passes}
 
 -- ---- a port, and a queue
 
@@ -71,68 +79,166 @@ has_place rows id n low is = record { value = is ∙ ap (λ (t : Text). Some t) 
 
 -- ---- from a capture
 
-abbrev from_words : Bool → ℕ → ℕ → List Text
-from_words skip port queue = codes "from-capture" ∷ (flag_words (codes "--skip") skip ++ digit port ∷ digit queue ∷ [])
+-- the command as clap builds it, which says nothing of the choices of `decode`
+abbrev from_shape : Shape
+from_shape = let none : Choices = record { ref_ptr = (0, 0); now = [] } in slice_index_or (built (program_app none none)).subs 4 (new_shape [])
 
-from_words_are : (skip : Bool) (port queue : ℕ) → port < PORTS → queue < MOST_PAIRS
-    → codes "from-capture" ∷ (flag_words (codes "--skip") skip ++ decimal port ∷ decimal queue ∷ []) ≡ from_words skip port queue
-from_words_are skip port queue port_is queue_is =
-    ap₂ (λ (p q : Text). codes "from-capture" ∷ (flag_words (codes "--skip") skip ++ p ∷ q ∷ []))
-    (decimal_digit port (omega (arith, port_is))) (decimal_digit queue (omega (arith, queue_is)))
-
-abbrev TakesFrom : Choices → Choices → Bool → ℕ → ℕ → Type 0
-TakesFrom rings formats skip port queue = takes (program_app rings formats) (from_words skip port queue) ≡ true
-
-takes_from : (rings formats : Choices) (skip : Bool) (port queue : ℕ) → port < PORTS → queue < MOST_PAIRS → TakesFrom rings formats skip port queue
+from_command : (rings formats : Choices) → IsCommand rings formats (codes "from-capture") from_shape
 unfolding clap_on_literals
-takes_from rings formats true port queue port_is queue_is =
-    each-place (TakesFrom rings formats true) port queue port_is queue_is refl refl refl refl refl refl refl refl refl refl refl refl refl refl refl refl
-takes_from rings formats false port queue port_is queue_is =
-    each-place (TakesFrom rings formats false) port queue port_is queue_is refl refl refl refl refl refl refl refl refl refl refl refl refl refl refl refl
+from_command rings formats = record { taken = λ rest. refl; level = λ rest. refl; met = λ rest. refl; entry = λ rest. refl }
 
--- the values of the port, the queue, `--skip` and `--limit`
+-- the words behind its name: `--skip` if it is given, a port, a queue, and these
+abbrev from_words : Bool → ℕ → ℕ → List Text → List Text
+from_words skip port queue more = flag_words (codes "--skip") skip ++ digit port ∷ digit queue ∷ more
+
+from_words_are : (skip : Bool) (port queue : ℕ) (more : List Text) → port < PORTS → queue < MOST_PAIRS
+    → flag_words (codes "--skip") skip ++ decimal port ∷ decimal queue ∷ more ≡ from_words skip port queue more
+from_words_are skip port queue more port_is queue_is =
+    ap₂ (λ (p q : Text). flag_words (codes "--skip") skip ++ p ∷ q ∷ more) (decimal_digit port (omega (arith, port_is))) (decimal_digit queue (omega (arith, queue_is)))
+
+-- clap takes these words
+abbrev Takes : List Text → Type 0
+Takes words = level_passes from_shape [] nothing_held words false ≡ true
+
+-- the values that it makes of them: the port, the queue, `--skip` and `--limit`
 abbrev Places : Type 0
 Places = (Option Text × Option Text) × (Option Text × Option Text)
 
-abbrev places_of : List Row → Places
-places_of rows = ((one_of (codes "port") rows, one_of (codes "queue") rows), (one_of (codes "skip") rows, one_of (codes "limit") rows))
+abbrev places_of : Held → Places
+places_of h =
+    let rows = finished from_shape.rules h in
+    ((one_of (codes "port") rows, one_of (codes "queue") rows), (one_of (codes "skip") rows, one_of (codes "limit") rows))
 
-abbrev FindsFrom : Choices → Choices → Bool → ℕ → ℕ → Type 0
-FindsFrom rings formats skip port queue =
-    option_map {U = Text × Places} (λ p. (p.0, places_of p.1)) (subcommand_of (program_app rings formats) (from_words skip port queue))
-    ≡ Some (codes "from-capture", ((Some (digit port), Some (digit queue)), (Some (bool_text skip), None)))
+abbrev places_said : Bool → ℕ → ℕ → Option Text → Places
+places_said skip port queue limit = ((Some (digit port), Some (digit queue)), (Some (bool_text skip), limit))
 
-finds_from : (rings formats : Choices) (skip : Bool) (port queue : ℕ) → port < PORTS → queue < MOST_PAIRS → FindsFrom rings formats skip port queue
+abbrev held_after : List Text → Held
+held_after words = (walk from_shape.rules [] nothing_held words).held
+
+-- without a limit
+abbrev TakesAll : Bool → ℕ → ℕ → Type 0
+TakesAll skip port queue = Takes (from_words skip port queue [])
+
+takes_all : (skip : Bool) (port queue : ℕ) → port < PORTS → queue < MOST_PAIRS → TakesAll skip port queue
 unfolding clap_on_literals
-finds_from rings formats true port queue port_is queue_is =
-    each-place (FindsFrom rings formats true) port queue port_is queue_is refl refl refl refl refl refl refl refl refl refl refl refl refl refl refl refl
-finds_from rings formats false port queue port_is queue_is =
-    each-place (FindsFrom rings formats false) port queue port_is queue_is refl refl refl refl refl refl refl refl refl refl refl refl refl refl refl refl
+takes_all true port queue port_is queue_is =
+    each-place (TakesAll true) port queue port_is queue_is refl refl refl refl refl refl refl refl refl refl refl refl refl refl refl refl
+takes_all false port queue port_is queue_is =
+    each-place (TakesAll false) port queue port_is queue_is refl refl refl refl refl refl refl refl refl refl refl refl refl refl refl refl
+
+abbrev FindsAll : Bool → ℕ → ℕ → Type 0
+FindsAll skip port queue = places_of (held_after (from_words skip port queue [])) ≡ places_said skip port queue None
+
+finds_all : (skip : Bool) (port queue : ℕ) → port < PORTS → queue < MOST_PAIRS → FindsAll skip port queue
+unfolding clap_on_literals
+finds_all true port queue port_is queue_is =
+    each-place (FindsAll true) port queue port_is queue_is refl refl refl refl refl refl refl refl refl refl refl refl refl refl refl refl
+finds_all false port queue port_is queue_is =
+    each-place (FindsAll false) port queue port_is queue_is refl refl refl refl refl refl refl refl refl refl refl refl refl refl refl refl
+
+-- with a limit: the walk up to its number, and what is met there
+abbrev limited : Bool → ℕ → ℕ → Text → List Text
+limited skip port queue word = from_words skip port queue (codes "--limit" ∷ word ∷ [])
+
+abbrev to_number : Bool → ℕ → ℕ → Walk
+to_number skip port queue = walk from_shape.rules [] nothing_held (from_words skip port queue (codes "--limit" ∷ []))
+
+abbrev met : Bool → ℕ → ℕ → Text → Held × Step
+met skip port queue word = word_met from_shape.rules [] false (option (codes "limit")) 3 word (to_number skip port queue).held
+
+abbrev met_plainly : Bool → ℕ → ℕ → Text → Held × Step
+met_plainly skip port queue word = plain_word from_shape.rules (option (codes "limit")) word (to_number skip port queue).held
+
+abbrev word_passing : Bool → ℕ → ℕ → Text → Bool
+word_passing skip port queue word = word_passes from_shape [] false (option (codes "limit")) word (to_number skip port queue).held
+
+-- what is held at last, by what is met
+abbrev held_by : Bool → ℕ → ℕ → Text → Held × Step → Held
+held_by skip port queue word m = (after_step from_shape.rules word (to_number skip port queue) m.0 m.1).held
+
+abbrev passes_by : Bool → ℕ → ℕ → Text → Held × Step → Bool → Bool
+passes_by skip port queue word m pass =
+    let end = held_by skip port queue word m in
+    ((pass && step_passes from_shape 3 m.0 m.1) && true)
+    && (settle_passes from_shape.rules from_shape.args_override_self end && (list_all default_passes from_shape.rules && is_valid from_shape (finished from_shape.rules end) false))
+
+-- whether clap takes them, and what it holds and finds at last, by what is met. `accepts` is what it makes of the number alone
+abbrev Limited : Type 0
+Limited = (Bool × Bool) × (Held × Places)
+
+abbrev limited_facts : Bool → ℕ → ℕ → Text → Limited
+limited_facts skip port queue word = (
+  (level_passes from_shape [] nothing_held (limited skip port queue word) false, passes_by skip port queue word (met_plainly skip port queue word) true),
+  (held_after (limited skip port queue word), places_of (held_by skip port queue word (met_plainly skip port queue word))),
+)
+
+abbrev limited_said : Bool → ℕ → ℕ → Text → Limited
+limited_said skip port queue word = (
+  (passes_by skip port queue word (met skip port queue word) (word_passing skip port queue word), (accepts false (Signed (pos 0) (pos 4294967295)) word && true) && true),
+  (held_by skip port queue word (met skip port queue word), places_said skip port queue (Some (without_minus word))),
+)
+
+abbrev IsLimited : Bool → Text → ℕ → ℕ → Type 0
+IsLimited skip word port queue = limited_facts skip port queue word ≡ limited_said skip port queue word
+
+is_limited : (skip : Bool) (port queue : ℕ) (word : Text) → port < PORTS → queue < MOST_PAIRS → IsLimited skip word port queue
+unfolding clap_on_literals
+is_limited true port queue word port_is queue_is =
+    each-place (IsLimited true word) port queue port_is queue_is refl refl refl refl refl refl refl refl refl refl refl refl refl refl refl refl
+is_limited false port queue word port_is queue_is =
+    each-place (IsLimited false word) port queue port_is queue_is refl refl refl refl refl refl refl refl refl refl refl refl refl refl refl refl
+
+takes_limited : (skip : Bool) (port queue : ℕ) (word : Text) → port < PORTS → queue < MOST_PAIRS → IsNumber 4294967295 word → Takes (limited skip port queue word)
+takes_limited skip port queue word port_is queue_is number =
+    let is = is_limited skip port queue word port_is queue_is in
+    ap (λ (f : Limited). f.0.0) is
+    ∙ (ap₂ (passes_by skip port queue word) (plain_read from_shape.rules (codes "limit") 3 word (to_number skip port queue).held number.plain)
+    (plain_read_passes from_shape (codes "limit") word (to_number skip port queue).held number.plain)
+    ∙ (ap (λ (f : Limited). f.0.1) is ∙ ap (λ b. (b && true) && true) number.accepted))
+
+finds_limited : (skip : Bool) (port queue : ℕ) (word : Text) → port < PORTS → queue < MOST_PAIRS → IsNumber 4294967295 word
+    → places_of (held_after (limited skip port queue word)) ≡ places_said skip port queue (Some (without_minus word))
+finds_limited skip port queue word port_is queue_is number =
+    let is = is_limited skip port queue word port_is queue_is in
+    ap (λ (f : Limited). places_of f.1.0) is
+    ∙ (ap (λ m. places_of (held_by skip port queue word m)) (plain_read from_shape.rules (codes "limit") 3 word (to_number skip port queue).held number.plain)
+    ∙ ap (λ (f : Limited). f.1.1) is)
+
+-- with or without it
+takes_from : (skip : Bool) (port queue : ℕ) (limit : Option ℕ) → port < PORTS → queue < MOST_PAIRS → IsLimit limit → Takes (from_words skip port queue (limit_words limit))
+takes_from skip port queue None port_is queue_is fits = takes_all skip port queue port_is queue_is
+takes_from skip port queue (Some n) port_is queue_is fits =
+    takes_limited skip port queue (decimal n) port_is queue_is (is_number 4294967295 n (omega (arith, fits)) fits)
+
+finds_from : (skip : Bool) (port queue : ℕ) (limit : Option ℕ) → port < PORTS → queue < MOST_PAIRS → IsLimit limit
+    → places_of (held_after (from_words skip port queue (limit_words limit))) ≡ places_said skip port queue (option_map decimal limit)
+finds_from skip port queue None port_is queue_is fits = finds_all skip port queue port_is queue_is
+finds_from skip port queue (Some n) port_is queue_is fits =
+    finds_limited skip port queue (decimal n) port_is queue_is (is_number 4294967295 n (omega (arith, fits)) fits)
+    ∙ ap (places_said skip port queue) (reads_itself n fits)
+
+from_words_said : (words : List Text) (port queue : ℕ) (reading : ReadOptions) → SaysFromCapture words port queue reading
+    → words ≡ codes "from-capture" ∷ from_words reading.skip port queue (limit_words reading.limit)
+from_words_said words port queue reading says =
+    says.words_are ∙ ap (λ (l : List Text). codes "from-capture" ∷ l) (from_words_are reading.skip port queue (limit_words reading.limit) says.port_is says.queue_is)
 
 pub from_taken : (app : App) (words : List Text) (port queue : ℕ) (reading : ReadOptions) → IsProgram app → SaysFromCapture words port queue reading → takes app words ≡ true
 from_taken app words port queue reading program says =
-    ap (λ (a : App). takes a words) program.app_is
-    ∙ (ap (takes (program_app program.rings program.formats)) (says.words_are ∙ from_words_are reading.skip port queue says.port_is says.queue_is)
-    ∙ takes_from program.rings program.formats reading.skip port queue says.port_is says.queue_is)
-
-no-limit : (rows : List Row) (limit : Option ℕ) → limit ≡ None → one_of (codes "limit") rows ≡ None → (one_of (codes "limit") rows ≡ option_map decimal limit) × IsLimit limit
-no-limit rows None none is = (is, tt)
-no-limit rows (Some n) none is = let bad : ⊥ = cc none in absurd bad
+    command_taken app words (from_words reading.skip port queue (limit_words reading.limit)) (codes "from-capture") from_shape program from_command
+    (from_words_said words port queue reading says) (takes_from reading.skip port queue reading.limit says.port_is says.queue_is says.fits)
 
 pub from_found : (app : App) (words : List Text) (port queue : ℕ) (reading : ReadOptions) → IsProgram app → SaysFromCapture words port queue reading
     → (rows : List Row) × (subcommand_of app words ≡ Some (codes "from-capture", rows)) × HasFromCapture rows port queue reading
 from_found app words port queue reading program says =
-    let same = ap (λ (a : App). subcommand_of a words) program.app_is
-    ∙ ap (subcommand_of (program_app program.rings program.formats)) (says.words_are ∙ from_words_are reading.skip port queue says.port_is says.queue_is) in
-    let found = rows_in places_of (subcommand_of app words) (codes "from-capture") ((Some (digit port), Some (digit queue)), (Some (bool_text reading.skip), None))
-    (ap (option_map {U = Text × Places} (λ p. (p.0, places_of p.1))) same ∙ finds_from program.rings program.formats reading.skip port queue says.port_is says.queue_is) in
-    let limit = no-limit found.0 reading.limit says.unlimited (ap (λ (v : Places). v.1.1) found.2) in (
-      found.0,
-      found.1,
+    let rest = from_words reading.skip port queue (limit_words reading.limit) in
+    let rows = finished from_shape.rules (held_after rest) in
+    let values = finds_from reading.skip port queue reading.limit says.port_is says.queue_is says.fits in (
+      rows,
+      command_found app words rest (codes "from-capture") from_shape program from_command (from_words_said words port queue reading says),
       record {
-        has_port = has_place found.0 (codes "port") port (port-is-place port says.port_is) (ap (λ (v : Places). v.0.0) found.2);
-        has_queue = has_place found.0 (codes "queue") queue says.queue_is (ap (λ (v : Places). v.0.1) found.2);
-        has_reading = record { skip = ap (λ (v : Places). v.1.0) found.2; limit = limit.0; fits = limit.1 };
+        has_port = has_place rows (codes "port") port (port-is-place port says.port_is) (ap (λ (v : Places). v.0.0) values);
+        has_queue = has_place rows (codes "queue") queue says.queue_is (ap (λ (v : Places). v.0.1) values);
+        has_reading = record { skip = ap (λ (v : Places). v.1.0) values; limit = ap (λ (v : Places). v.1.1) values; fits = says.fits };
         port_is = says.port_is;
       },
     )

@@ -170,6 +170,26 @@ pub record IsCommand (rings formats : Choices) (name : Text) (s : Shape) : Type 
       subcommand_of (program_app rings formats) (name ∷ rest) ≡ entered a (fold (walked a.top.rules (names_of a)) (stopped_at name []) rest).stopped
   pub entry : (rest : List Text) → entered (built_program rings formats) (Some (name, rest)) ≡ Some (name, finished s.rules (walk s.rules [] nothing_held rest).held)
 
+-- so the program takes the words if the command takes those behind its name
+pub command_taken : (app : App) (words rest : List Text) (name : Text) (s : Shape) → IsProgram app → ((rings formats : Choices) → IsCommand rings formats name s)
+    → words ≡ name ∷ rest → level_passes s [] nothing_held rest false ≡ true → takes app words ≡ true
+command_taken app words rest name s program is_command words_are passes =
+    let a = built_program program.rings program.formats in
+    let command = is_command program.rings program.formats in
+    ap₂ takes program.app_is words_are
+    ∙ (command.taken rest
+    ∙ (ap₂ (top_passes program.rings program.formats) (stops a.top.rules (names_of a) name [] rest) (stop_passes a.top (names_of a) name [] rest)
+    ∙ (command.level rest ∙ ap (λ b. b && true) passes)))
+
+-- and finds what the command makes of them
+pub command_found : (app : App) (words rest : List Text) (name : Text) (s : Shape) → IsProgram app → ((rings formats : Choices) → IsCommand rings formats name s)
+    → words ≡ name ∷ rest → subcommand_of app words ≡ Some (name, finished s.rules (walk s.rules [] nothing_held rest).held)
+command_found app words rest name s program is_command words_are =
+    let a = built_program program.rings program.formats in
+    let command = is_command program.rings program.formats in
+    ap₂ subcommand_of program.app_is words_are
+    ∙ (command.met rest ∙ (ap (λ (w : Walk). entered a w.stopped) (stops a.top.rules (names_of a) name [] rest) ∙ command.entry rest))
+
 -- these are options of it, and it wants no other words
 pub record HasOptions (name : Text) (s : Shape) (gs : List Given) : Type 0 where
   pub command : (rings formats : Choices) → IsCommand rings formats name s
@@ -199,25 +219,15 @@ options_rows name s gs has lawful =
 pub options_taken : (app : App) (words : List Text) (name : Text) (s : Shape) (gs : List Given) → IsProgram app → HasOptions name s gs → AreLawful gs
     → words ≡ name ∷ all_words gs → takes app words ≡ true
 options_taken app words name s gs program has lawful words_are =
-    let a = built_program program.rings program.formats in
-    let command = has.command program.rings program.formats in
-    let rest = all_words gs in
-    ap₂ takes program.app_is words_are
-    ∙ (command.taken rest
-    ∙ (ap₂ (top_passes program.rings program.formats) (stops a.top.rules (names_of a) name [] rest) (stop_passes a.top (names_of a) name [] rest)
-    ∙ (command.level rest ∙ ap (λ b. b && true) (options_level name s gs has lawful))))
+    command_taken app words (all_words gs) name s program has.command words_are (options_level name s gs has lawful)
 
 -- and what holds of each option holds in the command's matches
 pub options_hold : (P : List Row → Given → Type 0) → HoldsOfEach P → (app : App) (words : List Text) (name : Text) (s : Shape) (gs : List Given) → IsProgram app
     → HasOptions name s gs → AreLawful gs → words ≡ name ∷ all_words gs
     → (rows : List Row) × (subcommand_of app words ≡ Some (name, rows)) × All (P rows) gs
-options_hold P each app words name s gs program has lawful words_are =
-    let a = built_program program.rings program.formats in
-    let command = has.command program.rings program.formats in
-    let rest = all_words gs in (
-      finished s.rules (walk s.rules [] nothing_held rest).held,
-      ap₂ subcommand_of program.app_is words_are
-          ∙ (command.met rest ∙ (ap (λ (w : Walk). entered a w.stopped) (stops a.top.rules (names_of a) name [] rest) ∙ command.entry rest)),
+options_hold P each app words name s gs program has lawful words_are = (
+      finished s.rules (walk s.rules [] nothing_held (all_words gs)).held,
+      command_found app words (all_words gs) name s program has.command words_are,
       subst (λ (rows : List Row). All (P rows) gs) (sym (options_rows name s gs has lawful)) (all_hold P each s.rules [] gs has.among has.distinct),
     )
 

@@ -227,12 +227,13 @@ long_read_passes s w word id value a h named by_long =
     ∙ ap (λ (o : Option Rule). long_passes s.rules s.args_override_self o value h) by_long))
 
 -- a word that is none goes to the option that waits
-plain_read : (rules : List Rule) (id : Text) (word : Text) (h : Held) → IsPlain word → word_met rules [] false (option id) 1 word h ≡ plain_word rules (option id) word h
-plain_read rules id word h plain =
-    ap (λ b. if b then (h, trailing 1) else long_or_other rules (option id) word (long_of word) h) plain.no_dashes
+pub plain_read : (rules : List Rule) (id : Text) (position : ℕ) (word : Text) (h : Held) → IsPlain word
+    → word_met rules [] false (option id) position word h ≡ plain_word rules (option id) word h
+plain_read rules id position word h plain =
+    ap (λ b. if b then (h, trailing position) else long_or_other rules (option id) word (long_of word) h) plain.no_dashes
     ∙ (ap (λ o. long_or_other rules (option id) word o h) plain.no_long ∙ ap (λ o. short_or_plain rules (option id) word o h) plain.no_short)
 
-plain_read_passes : (s : Shape) (id : Text) (word : Text) (h : Held) → IsPlain word → word_passes s [] false (option id) word h ≡ true
+pub plain_read_passes : (s : Shape) (id : Text) (word : Text) (h : Held) → IsPlain word → word_passes s [] false (option id) word h ≡ true
 plain_read_passes s id word h plain =
     ap (λ b. b || flag_word_passes s.rules s.args_override_self (long_of word) word h) plain.no_dashes
     ∙ (ap (λ o. flag_word_passes s.rules s.args_override_self o word h) plain.no_long
@@ -264,14 +265,14 @@ word_walked : (rules : List Rule) (id : Text) (action : ArgAction) (parser : Val
 unfolding clap_on_literals
 word_walked rules id action parser defaults word h among plain =
     let waiting = (waits rules id h).held in
-    ap (λ (met : Held × Step). after_step rules word (waits rules id h) met.0 met.1) (plain_read rules id word waiting plain)
+    ap (λ (met : Held × Step). after_step rules word (waits rules id h) met.0 met.1) (plain_read rules id 1 word waiting plain)
     ∙ (ap (λ (o : Option Rule). let met = option_word o id word waiting in at met.1 met.0) among.by_id
     ∙ ap (λ b. at (if nat_lt (if b then length (word ∷ []) else 0) 1 then option id else idle) (after_value rules id word h)) among.same)
 
 turn_word : (s : Shape) (id : Text) (word : Text) (h : Held) → IsPlain word → turn_passes s [] (waits s.rules id h) word ≡ true
 turn_word s id word h plain =
     let waiting = (waits s.rules id h).held in
-    ap₂ (λ b (met : Held × Step). b && step_passes s 1 met.0 met.1) (plain_read_passes s id word waiting plain) (plain_read s.rules id word waiting plain)
+    ap₂ (λ b (met : Held × Step). b && step_passes s 1 met.0 met.1) (plain_read_passes s id word waiting plain) (plain_read s.rules id 1 word waiting plain)
 
 value_walked : (rules : List Rule) (id : Text) (action : ArgAction) (parser : ValueParser) (defaults : List Text) (word : Text) (w : Waiting) (h : Held) (rest : List Text)
     → IsAmong rules id (value_rule id action parser defaults) → IsPlain word

@@ -1,10 +1,10 @@
 -- The words of `from-capture` and `to-capture`.
-use Rattle.std.specs.Prelude.{◌≡◌, ℕ, ◌<◌, true, pos, List, [], ◌∷◌, ◌++◌, codes, decimal, Some, None}
+use Rattle.std.specs.Prelude.{◌≡◌, ℕ, ◌<◌, true, pos, List, [], ◌∷◌, ◌++◌, codes, decimal, Some}
 use Rattle.clap.specs.Words.{App, Row, Rule, Text, new_rule, one_of}
 use Rattle.clap.specs.declared.builder.value_parser.ValueParser.TheVariants.{Signed}
 use Rattle.capture.specs.declared.options.ReadOptions.{ReadOptions}
 use Rattle.command_line.specs.OptionWords.{explain_rule, flag_words, with_rules}
-use Rattle.command_line.specs.ReadingWords.{HasReading, limit_rule, skip_rule}
+use Rattle.command_line.specs.ReadingWords.{HasReading, IsLimit, limit_rule, limit_words, skip_rule}
 use Rattle.limits.specs.declared.profile.TheConstants.{MOST_PAIRS, PORTS}
 
 -- an argument that is a number up to a given one
@@ -25,10 +25,10 @@ from_capture_app = with_rules (codes "from-capture") (port_rule ∷ queue_rule �
 abbrev pub to_capture_app : App
 to_capture_app = with_rules (codes "to-capture") (port_rule ∷ explain_rule ∷ [])
 
--- the words are `from-capture`, `--skip` if faulty records are left out, a port and a queue
+-- the words are `from-capture`, `--skip` if faulty records are left out, a port, a queue, and `--limit` with a number if there is one
 pub record SaysFromCapture (words : List Text) (port queue : ℕ) (reading : ReadOptions) : Type 0 where
-  pub words_are : words ≡ codes "from-capture" ∷ (flag_words (codes "--skip") reading.skip ++ decimal port ∷ decimal queue ∷ [])
-  pub unlimited : reading.limit ≡ None
+  pub words_are : words ≡ codes "from-capture" ∷ (flag_words (codes "--skip") reading.skip ++ decimal port ∷ decimal queue ∷ limit_words reading.limit)
+  pub fits : IsLimit reading.limit
   pub port_is : port < PORTS
   pub queue_is : queue < MOST_PAIRS
 

@@ -328,6 +328,17 @@ const NO_SOURCES: &[(&[&str], &str)] = &[
     (&["forward", "--wire-capture", "2=x.pcap"], SOURCE),
     (&["forward", "--wire-capture", "0:0=x.pcap"], SOURCE),
     (&["forward", "--wire-capture", "1="], SOURCE),
+    (
+        &[
+            "forward",
+            "--skip",
+            "--capture",
+            "0:0=x.pcap",
+            "--wire-capture",
+            "2=x.pcap",
+        ],
+        SOURCE,
+    ),
 ];
 
 #[test]
