@@ -7,11 +7,11 @@
 
 mod pipe;
 
-use command_line::run;
+use command_line::{MISUSED, run};
 use commands::{Refusal, refuse};
 use pipe::{Faults, GONE, Output};
 use std::cell::Cell;
-use std::io::IsTerminal;
+use std::io::{ErrorKind, IsTerminal, Write};
 use std::process::ExitCode;
 use std::rt::Env;
 use std::{env, io};
@@ -21,11 +21,21 @@ fn words_of<R: Env + AllocGlobal>(rt: &R) -> io::Result<Vec<String>> {
     Ok(env::args(rt)?.skip(1).collect(rt.alloc())?)
 }
 
+/// Says why the words cannot be read: one is not UTF-8, or memory is refused. Returns the exit status.
+fn refuse_words<E: Write>(faults: &mut E, kind: ErrorKind) -> u8 {
+    if kind == ErrorKind::InvalidData {
+        let _ = faults.write_all(b"error: an argument is not valid UTF-8\n");
+        return MISUSED;
+    }
+    refuse(faults, Refusal::Memory)
+}
+
 fn main(rt: HostRuntime) -> ExitCode {
     let is_gone = Cell::new(false);
     let mut faults = Faults::new(rt.stderr(), &is_gone);
-    let Ok(words) = words_of(&rt) else {
-        return ExitCode::from(refuse(&mut faults, Refusal::Memory));
+    let words = match words_of(&rt) {
+        Ok(words) => words,
+        Err(error) => return ExitCode::from(refuse_words(&mut faults, error.kind())),
     };
     let mut input = rt.stdin();
     let is_terminal = input.is_terminal();
