@@ -39,42 +39,27 @@ pub fn answer<R: Threads + Wait + Sync, I: Read, W: Write, E: Write>(
     ensures ends { EndsAs request.entry (I.remaining input.old) result (W.contents output.old) (W.contents output.new) }
 {
     let mut why = String::new(alloc);
-    serve(rt, alloc, request, input, output, faults, explain, &mut why)
-}
-
-/// The same, with an empty `why` for the explanation.
-fn serve<R: Threads + Wait + Sync, I: Read, W: Write, E: Write>(
-    rt: &R,
-    alloc: Global,
-    request: Request<'_>,
-    input: &mut I,
-    output: &mut W,
-    faults: &mut E,
-    explain: bool,
-    why: &mut String,
-) -> u8
-    ensures status { (result ≡ DONE) ⊎ (result ≡ REFUSED) }
-    ensures done { result ≡ DONE → Keeps (E.contents faults.old) (E.contents faults.new) }
-    ensures ends { EndsAs request.entry (I.remaining input.old) result (W.contents output.old) (W.contents output.new) }
-{
-    match perform(rt, alloc, request, input, output, why) {
-        Ok(()) => DONE,
+    match perform(rt, alloc, request, input, output, &mut why) {
+        Ok(()) => {
+            drop(why);
+            DONE
+        }
         Err(refusal) => refuse_request(alloc, faults, request, refusal, why, explain),
     }
 }
 
-/// Prints the refusal of a request, and returns its exit status. Appends to `why` what the request shows of it.
+/// Prints the refusal of a request, and returns its exit status. Explains it by `why` and what the request shows of it.
 fn refuse_request<E: Write>(
     alloc: Global,
     faults: &mut E,
     request: Request<'_>,
     refusal: Refusal,
-    why: &mut String,
+    mut why: String,
     explain: bool,
 ) -> u8
     ensures { result ≡ REFUSED }
 {
-    let _ = explain_request(alloc, why, request, refusal);
+    let _ = explain_request(alloc, &mut why, request, refusal);
     refuse_explained(faults, refusal, why.as_str(), explain)
 }
 

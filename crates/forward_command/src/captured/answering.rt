@@ -68,49 +68,12 @@ pub fn answer<
     ensures screen { printing.progress ≡ false → streamed_port wires.now ≡ None → intake.now.reading.skip ≡ false → config.now.turns ≡ 0 → screen.new ≡ screen.old }
 {
     let mut why = String::new(alloc);
-    serve(
-        rt, alloc, config, printing, intake, wires, input, output, faults, screen, explain,
-        &mut why,
-    )
-}
-
-/// The same, with an empty `why` for the explanation.
-fn serve<
-    R: Threads + Wait + Clock + Sync + Files,
-    I: Read,
-    W: Write,
-    E: Write,
-    M: Write + IsTerminal + Send,
->(
-    rt: &R,
-    alloc: Global,
-    config: &Config,
-    printing: Printing,
-    intake: &Intake<'_, '_>,
-    wires: &[WireFile<'_>],
-    input: &mut I,
-    output: &mut W,
-    faults: &mut E,
-    screen: &mut M,
-    explain: bool,
-    why: &mut String,
-) -> u8
-    ensures status { (result ≡ DONE) ⊎ (result ≡ REFUSED) }
-    ensures done { result ≡ DONE → Keeps (E.contents faults.old) (E.contents faults.new) }
-    ensures forward { intake.now.sources ≡ [] → streamed_port wires.now ≡ None → (text : List ℕ) → I.remaining input.old ≡ Some text
-        → EndsForward config.now printing text result (W.contents output.old) (W.contents output.new) }
-    ensures captured { result ≡ DONE
-        → PrintsPage config.now (outlet printing wires.now) intake.now (I.remaining input.old) (W.contents output.old) (W.contents output.new) }
-    ensures refused { result ≡ REFUSED
-        → EndsRefused config.now (outlet printing wires.now) intake.now (I.remaining input.old) (W.contents output.old) (W.contents output.new) }
-    ensures unread { reads_script intake.now ≡ false → input.new ≡ input.old }
-    ensures screen { printing.progress ≡ false → streamed_port wires.now ≡ None → intake.now.reading.skip ≡ false → config.now.turns ≡ 0 → screen.new ≡ screen.old }
-{
     match perform(
-        rt, alloc, config, printing, intake, wires, input, output, screen, why,
+        rt, alloc, config, printing, intake, wires, input, output, screen, &mut why,
     ) {
         Ok(()) => {
             note_cuts(screen, config.turns, explain, why.as_str());
+            drop(why);
             DONE
         }
         Err(refused) => tell(faults, config, intake.sources, wires, refused, why, explain),

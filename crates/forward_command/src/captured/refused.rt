@@ -70,14 +70,14 @@ fn explain_refused(
 }
 
 /// Prints a refusal as the other commands do, after the name of the file that it concerns, if any. Returns its status.
-/// Appends to `why` what the options show of it.
+/// Explains it by `why` and what the options show of it.
 pub(crate) fn tell<E: Write>(
     faults: &mut E,
     config: &Config,
     sources: &[Source<'_>],
     wires: &[WireFile<'_>],
     refused: Refused,
-    why: &mut String,
+    mut why: String,
     explain: bool,
 ) -> u8
     ensures { result ≡ REFUSED }
@@ -85,6 +85,6 @@ pub(crate) fn tell<E: Write>(
     if let Some(file) = file_of(sources, wires, refused.place) {
         let _ = write!(faults, "{file}: ");
     }
-    let _ = explain_refused(why, config, sources, wires, refused);
+    let _ = explain_refused(&mut why, config, sources, wires, refused);
     refuse_explained(faults, refused.refusal, why.as_str(), explain)
 }

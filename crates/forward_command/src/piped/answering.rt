@@ -35,32 +35,16 @@ pub fn answer<I: Read, W: Write, E: Write, M: Write>(
     ensures screen { may_skip request ≡ false → screen.new ≡ screen.old }
 {
     let mut why = String::new(alloc);
-    serve(
-        alloc, request, input, output, faults, screen, explain, &mut why,
-    )
-}
-
-/// The same, with an empty `why` for the explanation.
-fn serve<I: Read, W: Write, E: Write, M: Write>(
-    alloc: Global,
-    request: CaptureRequest,
-    input: &mut I,
-    output: &mut W,
-    faults: &mut E,
-    screen: &mut M,
-    explain: bool,
-    why: &mut String,
-) -> u8
-    requires { IsPlaced request }
-    ensures status { (result ≡ DONE) ⊎ (result ≡ REFUSED) }
-    ensures done { result ≡ DONE → Keeps (E.contents faults.old) (E.contents faults.new) }
-    ensures ends { (bytes : List ℕ) → I.remaining input.old ≡ Some bytes
-        → EndsBy (meant request bytes) result (W.contents output.old) (W.contents output.new) }
-    ensures screen { may_skip request ≡ false → screen.new ≡ screen.old }
-{
-    match perform(alloc, request, input, output, screen, why) {
-        Ok(()) => DONE,
-        Err(refusal) => refuse_explained(faults, refusal, why.as_str(), explain),
+    match perform(alloc, request, input, output, screen, &mut why) {
+        Ok(()) => {
+            drop(why);
+            DONE
+        }
+        Err(refusal) => {
+            let status = refuse_explained(faults, refusal, why.as_str(), explain);
+            drop(why);
+            status
+        }
     }
 }
 

@@ -1,6 +1,6 @@
 use Rattle.forward_command.specs.Streams.{outlet, streamed_port}
 use Rattle.forward_command.proofs.CaptureEndings.{ends-refused, script-done, script-refused}
-use Rattle.forward_command.proofs.captured.answering.serve.Goals as goal
+use Rattle.forward_command.proofs.captured.answering.answer.Goals as goal
 
 pub returns-in-Ok-clause-forward : goal.returns-in-Ok-clause-forward
 returns-in-Ok-clause-forward g c = λ none whole text known.

@@ -1,5 +1,5 @@
 use Rattle.commands.proofs.Endings.{done-ends, refused-ends}
-use Rattle.commands.proofs.answering.serve.Goals as goal
+use Rattle.commands.proofs.answering.answer.Goals as goal
 
 pub returns-in-Ok-clause-ends : goal.returns-in-Ok-clause-ends
 returns-in-Ok-clause-ends g c = done-ends c.args.request _ _ _ c.in-Ok.ensures.done
