@@ -12,7 +12,7 @@ _poll82599() {
         forward) words='--pairs --ring --buffers --bsize --batch --rs-every --workers --turns --drop --no-retry --head --quiet --json --progress --capture --skip --limit --wire-capture --explain --help' ;;
         from-capture) words='--skip --limit --explain --help' ;;
         to-capture) words='--explain --help' ;;
-        schedules) words='--seed --moves --count --ring --pairs --off --head --refused --expect --json --registers --page --device-only-real --cover --recommended --explain --help' ;;
+        schedules) words='--seed --moves --count --ring --pairs --off --head --refused --expect --json --registers --page --device-only-real --cover --driver --recommended --explain --help' ;;
         help) words='once decode replay forward from-capture to-capture schedules' ;;
         *) words= ;;
     esac

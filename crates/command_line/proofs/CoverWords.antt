@@ -11,11 +11,11 @@ use Rattle.cover_command.specs.declared.request.CoverRequest.{CoverRequest}
 use Rattle.schedule_command.specs.Lists.{shows_page}
 use Rattle.command_line.specs.CommandLine.{IsProgram}
 use Rattle.command_line.specs.OptionWords.{is_head}
-use Rattle.command_line.specs.ScheduleWords.{HasCover, IsExpected, IsExpectedBy, IsUndrawn, SaysCover, expects_json, expects_registers, says_expect, is_said}
+use Rattle.command_line.specs.ScheduleWords.{HasCover, IsExpected, IsExpectedBy, IsUndrawn, SaysCover, expects_json, expects_registers, says_expect}
 use Rattle.command_line.proofs.OptionRows.{both-false}
-use Rattle.command_line.proofs.Options.{Given, HasValue, given_said, given_value, id_of, stands}
-use Rattle.command_line.proofs.Options.Given.{flag, number}
-use Rattle.command_line.proofs.OptionLists.{AreLawful, HasOptions, HoldsOfEach, all_words, options_hold, options_taken}
+use Rattle.command_line.proofs.Options.{Given}
+use Rattle.command_line.proofs.Options.Given.{flag, number, worded}
+use Rattle.command_line.proofs.OptionLists.{AreLawful, HasOptions, IsRead, all_words, each_read, options_hold, options_taken}
 use Rattle.command_line.proofs.ScheduleWords.{is_command, shape}
 
 -- its options, with what the words say: none of those for drawn lists
@@ -36,6 +36,7 @@ options request explained =
     ∷ flag (codes "registers") (expects_registers request.expect)
     ∷ flag (codes "page") (shows_page request.expect)
     ∷ flag (codes "device-only-real") request.device_only
+    ∷ worded (codes "driver") None
     ∷ flag (codes "explain") explained
     ∷ []
 
@@ -43,7 +44,7 @@ has_options : (request : CoverRequest) (explained : Bool) → HasOptions (codes 
 has_options request explained = record { command = is_command; among = refl; distinct = refl; valid = λ h. refl }
 
 are_lawful : (request : CoverRequest) (explained : Bool) → AreLawful (options request explained)
-are_lawful request explained = (tt, (tt, (tt, (tt, (tt, (tt, (tt, (tt, (tt, (tt, (tt, (tt, (tt, (tt, (tt, (tt, tt))))))))))))))))
+are_lawful request explained = (tt, (tt, (tt, (tt, (tt, (tt, (tt, (tt, (tt, (tt, (tt, (tt, (tt, (tt, (tt, (tt, (tt, tt)))))))))))))))))
 
 words_are : (words : List Text) (request : CoverRequest) (says : SaysCover words request) → words ≡ codes "schedules" ∷ all_words (options request says.explained)
 words_are words request says = says.words_are
@@ -56,13 +57,6 @@ no_page-undrawn (Some form) undrawn = ap is_page undrawn
 expected-undrawn : (expect : Option Shown) → IsUndrawn expect → IsExpected expect
 expected-undrawn None undrawn = tt
 expected-undrawn (Some form) undrawn = subst (λ (p : Pictures). IsExpectedBy p form.json form.registers) (sym undrawn) tt
-
--- each has its value, and stands or doesn't
-abbrev pub IsRead : List Row → Given → Type 0
-IsRead rows g = HasValue rows g × (is_said (id_of g) rows ≡ stands g)
-
-pub each_read : HoldsOfEach IsRead
-each_read rules before behind g among first last = (given_value rules before behind g among first last, given_said rules before behind g among first last)
 
 -- ---- what clap makes of them
 
@@ -93,6 +87,6 @@ cover_found app words request program says =
         undrawn = both-false _ _ (found.2 0 none (omega arith)).1 (both-false _ _ (found.2 1 none (omega arith)).1
             (both-false _ _ (found.2 2 none (omega arith)).1 (both-false _ _ (found.2 3 none (omega arith)).1
             (both-false _ _ (found.2 4 none (omega arith)).1 (both-false _ _ (found.2 5 none (omega arith)).1
-            (both-false _ _ (found.2 6 none (omega arith)).1 (found.2 7 none (omega arith)).1))))));
+            (both-false _ _ (found.2 6 none (omega arith)).1 (both-false _ _ (found.2 7 none (omega arith)).1 (found.2 15 none (omega arith)).1)))))));
       },
     )

@@ -14,7 +14,8 @@ use Rattle.command_line.specs.CommandLine.{Choices, IsProgram, program_app}
 use Rattle.command_line.specs.OptionWords.{SaysNumberBelow}
 use Rattle.command_line.proofs.CommandLine.{IsNumber, is_number, numeral_of, strips_none}
 use Rattle.command_line.proofs.OptionRows.{OptionUse, and-left, and-right, mentions, rows_in}
-use Rattle.command_line.proofs.Options.{Facts, Given, HasValue, IsAmong, IsLawful, Stands, after, at, dashed, facts_in, facts_of, given_passes, given_stands, given_value, given_walked, id_of, is_among, number_said, rows_at_last, rule_at, settles, use_of, waiting_after, words_of}
+use Rattle.command_line.specs.ScheduleWords.{is_said as row_said}
+use Rattle.command_line.proofs.Options.{Facts, Given, HasValue, IsAmong, IsLawful, Stands, after, at, dashed, facts_in, facts_of, given_passes, given_said, given_stands, given_value, given_walked, id_of, is_among, number_said, rows_at_last, rule_at, settles, stands, use_of, waiting_after, words_of}
 use Rattle.command_line.proofs.Options.Given.{number}
 
 -- ---- the options
@@ -226,15 +227,22 @@ pub options_hold : (P : List Row → Given → Type 0) → HoldsOfEach P → (ap
     → HasOptions name s gs → AreLawful gs → words ≡ name ∷ all_words gs
     → (rows : List Row) × (subcommand_of app words ≡ Some (name, rows)) × All (P rows) gs
 options_hold P each app words name s gs program has lawful words_are = (
-      finished s.rules (walk s.rules [] nothing_held (all_words gs)).held,
-      command_found app words (all_words gs) name s program has.command words_are,
-      subst (λ (rows : List Row). All (P rows) gs) (sym (options_rows name s gs has lawful)) (all_hold P each s.rules [] gs has.among has.distinct),
-    )
+  finished s.rules (walk s.rules [] nothing_held (all_words gs)).held,
+  command_found app words (all_words gs) name s program has.command words_are,
+  subst (λ (rows : List Row). All (P rows) gs) (sym (options_rows name s gs has lawful)) (all_hold P each s.rules [] gs has.among has.distinct),
+)
 
 -- so each has its value there
 pub options_found : (app : App) (words : List Text) (name : Text) (s : Shape) (gs : List Given) → IsProgram app → HasOptions name s gs → AreLawful gs
     → words ≡ name ∷ all_words gs → (rows : List Row) × (subcommand_of app words ≡ Some (name, rows)) × All (HasValue rows) gs
 options_found = options_hold HasValue given_value
+
+-- each has its value, and stands or doesn't
+abbrev pub IsRead : List Row → Given → Type 0
+IsRead rows g = HasValue rows g × (row_said (id_of g) rows ≡ stands g)
+
+pub each_read : HoldsOfEach IsRead
+each_read rules before behind g among first last = (given_value rules before behind g among first last, given_said rules before behind g among first last)
 
 -- ---- what words say of a number
 

@@ -35,17 +35,19 @@ pub data Shown : Type 0 where
   alone : Shown
   with_word : Text → Shown
 
--- an option with a number up to this one, which has these texts where it is left out; one without a value; one with a word, which
--- may stand again and again; and one whose value may be left out, where it has this one. Each with what is said by it
+-- an option with a number up to this one, which has these texts where it is left out; one without a value; one with a word; one with
+-- a word, which may stand again and again; and one whose value may be left out, where it has this one. Each with what is said by it
 pub data Given : Type 0 where
   number : Text → ℕ → List Text → Option Text → Given
   flag : Text → Bool → Given
+  worded : Text → Option Text → Given
   files : Text → List Text → Given
   optional : Text → Text → Option Shown → Given
 
 abbrev pub id_of : Given → Text
 id_of (number id most defaults said) = id
 id_of (flag id said) = id
+id_of (worded id said) = id
 id_of (files id said) = id
 id_of (optional id value said) = id
 
@@ -66,6 +68,9 @@ value_rule id action parser defaults = record (new_rule id) {
 
 abbrev pub number_at : Text → ℕ → List Text → Rule
 number_at id most defaults = value_rule id Set (Signed (pos 0) (pos most)) defaults
+
+abbrev pub word_at : Text → Rule
+word_at id = value_rule id Set AnyText []
 
 abbrev pub file_at : Text → Rule
 file_at id = value_rule id Append AnyText []
@@ -93,6 +98,7 @@ optional_at id value = record (new_rule id) {
 abbrev pub rule_at : Given → Rule
 rule_at (number id most defaults said) = number_at id most defaults
 rule_at (flag id said) = flag_at id
+rule_at (worded id said) = word_at id
 rule_at (files id said) = file_at id
 rule_at (optional id value said) = optional_at id value
 
@@ -101,6 +107,8 @@ abbrev pub words_of : Given → List Text
 words_of (number id most defaults None) = []
 words_of (number id most defaults (Some word)) = dashed id ∷ word ∷ []
 words_of (flag id said) = flag_words (dashed id) said
+words_of (worded id None) = []
+words_of (worded id (Some word)) = dashed id ∷ word ∷ []
 words_of (files id said) = file_words (dashed id) said
 words_of (optional id value None) = []
 words_of (optional id value (Some alone)) = dashed id ∷ []
@@ -119,6 +127,7 @@ IsShown id (with_word word) = IsNamed (dashed id ++ 61 ∷ word) id (Some word)
 abbrev pub IsLawful : Given → Type 0
 IsLawful (number id most defaults said) = IfSome said (IsNumber most)
 IsLawful (flag id said) = ⊤
+IsLawful (worded id said) = IfSome said IsPlain
 IsLawful (files id said) = All IsPlain said
 IsLawful (optional id value said) = IfSome said (IsShown id)
 
@@ -179,6 +188,8 @@ after rules (number id most defaults None) h = h
 after rules (number id most defaults (Some word)) h = after_value rules id word h
 after rules (flag id false) h = h
 after rules (flag id true) h = reacted rules (flag_at id) [] h
+after rules (worded id None) h = h
+after rules (worded id (Some word)) h = after_value rules id word h
 after rules (files id said) h = after_values rules id said h
 after rules (optional id value None) h = h
 after rules (optional id value (Some alone)) h = record (settled rules h) { pending = Some (id, []) }
@@ -194,6 +205,8 @@ waiting_after (number id most defaults None) w = w
 waiting_after (number id most defaults (Some word)) w = idle
 waiting_after (flag id false) w = w
 waiting_after (flag id true) w = idle
+waiting_after (worded id None) w = w
+waiting_after (worded id (Some word)) w = idle
 waiting_after (files id said) w = behind_files said w
 waiting_after (optional id value None) w = w
 waiting_after (optional id value (Some alone)) w = option id
@@ -362,6 +375,7 @@ flag_values false = None
 abbrev values_of : Given → Option (List Text)
 values_of (number id most defaults said) = option_map (λ (word : Text). word ∷ []) said
 values_of (flag id said) = flag_values said
+values_of (worded id said) = option_map (λ (word : Text). word ∷ []) said
 values_of (files id said) = file_values said
 values_of (optional id value None) = None
 values_of (optional id value (Some alone)) = Some (value ∷ [])
@@ -397,6 +411,15 @@ number_stands s id most defaults word h us among is stands new =
       rows = used_rows s.rules id a word h among.by_id ∙ one-more id (reading_by a) us (word ∷ []) (settled s.rules h).rows stands.rows new;
       settles = used_settles s id a word h among.by_id
           ∙ ap₂ (λ b c. (not b || s.args_override_self) && (c && true)) (ap (has_row id) stands.rows ∙ absent-in id us new) is.accepted;
+    }
+
+word_stands : (s : Shape) (id : Text) (word : Text) (h : Held) (us : List OptionUse) → IsAmong s.rules id (word_at id) → Stands s h us → mentions id us ≡ false
+    → Stands s (after s.rules (worded id (Some word)) h) (us ++ use_of (worded id (Some word)) ∷ [])
+word_stands s id word h us among stands new =
+    let a = word_at id in record {
+      rows = used_rows s.rules id a word h among.by_id ∙ one-more id (reading_by a) us (word ∷ []) (settled s.rules h).rows stands.rows new;
+      settles = used_settles s id a word h among.by_id
+          ∙ set_used s.args_override_self id (settled s.rules h).rows (ap (has_row id) stands.rows ∙ absent-in id us new);
     }
 
 flag_stands : (s : Shape) (id : Text) (h : Held) (us : List OptionUse) → Stands s h us → mentions id us ≡ false
@@ -484,6 +507,8 @@ given_walked rules (number id most defaults (Some word)) w h rest among lawful =
     value_walked rules id Set (Signed (pos 0) (pos most)) defaults word w h rest among lawful.plain
 given_walked rules (flag id false) w h rest among lawful = refl
 given_walked rules (flag id true) w h rest among lawful = ap (λ (v : Walk). fold (walked rules []) v rest) (flag_walked rules id w h among)
+given_walked rules (worded id None) w h rest among lawful = refl
+given_walked rules (worded id (Some word)) w h rest among lawful = value_walked rules id Set AnyText [] word w h rest among lawful
 given_walked rules (files id said) w h rest among lawful = files_walked rules id said w h rest among lawful
 given_walked rules (optional id value None) w h rest among lawful = refl
 given_walked rules (optional id value (Some alone)) w h rest among lawful = ap (λ (v : Walk). fold (walked rules []) v rest) (left_waiting rules id value w h among)
@@ -501,6 +526,8 @@ given_passes s (flag id false) w h us rest among lawful stands new = refl
 given_passes s (flag id true) w h us rest among lawful stands new =
     ap₂ (λ b (v : Walk). b && walk_passes s [] v rest)
     (flag_turn s id w h among stands.settles (ap (has_row id) stands.rows ∙ absent-in id us new)) (flag_walked s.rules id w h among)
+given_passes s (worded id None) w h us rest among lawful stands new = refl
+given_passes s (worded id (Some word)) w h us rest among lawful stands new = value_passed s id Set AnyText [] word w h rest among lawful stands.settles
 given_passes s (files id said) w h us rest among lawful stands new =
     files_pass s id said [] w h us rest among lawful new (left_out s h us id (reading_by (file_at id)) stands)
 given_passes s (optional id value None) w h us rest among lawful stands new = refl
@@ -517,6 +544,8 @@ given_stands s (number id most defaults None) h us among lawful stands new = lef
 given_stands s (number id most defaults (Some word)) h us among lawful stands new = number_stands s id most defaults word h us among lawful stands new
 given_stands s (flag id false) h us among lawful stands new = left_out s h us id (reading_by (flag_at id)) stands
 given_stands s (flag id true) h us among lawful stands new = flag_stands s id h us stands new
+given_stands s (worded id None) h us among lawful stands new = left_out s h us id (reading_by (word_at id)) stands
+given_stands s (worded id (Some word)) h us among lawful stands new = word_stands s id word h us among stands new
 given_stands s (files id said) h us among lawful stands new =
     files_stand s id said [] h us among new (left_out s h us id (reading_by (file_at id)) stands)
 given_stands s (optional id value None) h us among lawful stands new = left_out s h us id (reading_by (optional_at id value)) stands
@@ -540,6 +569,7 @@ optional_said value (Some (with_word word)) = Some word
 abbrev pub HasValue : List Row → Given → Type 0
 HasValue rows (number id most defaults said) = one_of id rows ≡ number_said defaults said
 HasValue rows (flag id said) = one_of id rows ≡ Some (bool_text said)
+HasValue rows (worded id said) = first_of id rows ≡ said
 HasValue rows (files id said) = all_of id rows ≡ file_values said
 HasValue rows (optional id value said) = first_of id rows ≡ optional_said value said
 
@@ -582,6 +612,10 @@ given_value rules before behind (flag id true) among first last =
     ap (option_and_then row_text) (standing rules before behind id (reading_by (flag_at id)) (codes "true" ∷ []) among.same first)
 given_value rules before behind (flag id false) among first last =
     ap (option_and_then row_text) (by_default rules before behind (flag_at id) (codes "false") [] among refl first last)
+given_value rules before behind (worded id None) among first last =
+    ap (option_and_then (λ (r : Row). slice_get r.values 0)) (by_nothing rules before behind id (reading_by (word_at id)) among.default first last)
+given_value rules before behind (worded id (Some word)) among first last =
+    ap (option_and_then (λ (r : Row). slice_get r.values 0)) (standing rules before behind id (reading_by (word_at id)) (word ∷ []) among.same first)
 given_value rules before behind (files id []) among first last =
     ap (option_map (λ (r : Row). r.values)) (by_nothing rules before behind id (reading_by (file_at id)) among.default first last)
 given_value rules before behind (files id (word ∷ words)) among first last =
@@ -598,6 +632,7 @@ given_value rules before behind (optional id value (Some (with_word word))) amon
 abbrev pub stands : Given → Bool
 stands (number id most defaults said) = is_some said
 stands (flag id said) = said
+stands (worded id said) = is_some said
 stands (files id said) = is_some (file_values said)
 stands (optional id value said) = is_some said
 
@@ -617,6 +652,10 @@ given_said rules before behind (flag id true) among first last =
     ap row_is_said (standing rules before behind id (reading_by (flag_at id)) (codes "true" ∷ []) among.same first)
 given_said rules before behind (flag id false) among first last =
     ap row_is_said (by_default rules before behind (flag_at id) (codes "false") [] among refl first last)
+given_said rules before behind (worded id None) among first last =
+    ap row_is_said (by_nothing rules before behind id (reading_by (word_at id)) among.default first last)
+given_said rules before behind (worded id (Some word)) among first last =
+    ap row_is_said (standing rules before behind id (reading_by (word_at id)) (word ∷ []) among.same first)
 given_said rules before behind (files id []) among first last =
     ap row_is_said (by_nothing rules before behind id (reading_by (file_at id)) among.default first last)
 given_said rules before behind (files id (word ∷ words)) among first last =

@@ -8,11 +8,10 @@ use Rattle.schedule_command.specs.Lists.{shows_page}
 use Rattle.command_line.specs.CommandLine.{IsProgram}
 use Rattle.command_line.specs.OptionWords.{is_head}
 use Rattle.command_line.specs.ScheduleWords.{HasLists, HasRecommended, SaysLists, SaysRecommended, expects_json, expects_registers, says_expect, last_words}
-use Rattle.command_line.proofs.CoverWords.{IsRead, each_read}
 use Rattle.command_line.proofs.OptionRows.{both-false}
 use Rattle.command_line.proofs.Options.{Given, words_of}
-use Rattle.command_line.proofs.Options.Given.{flag, number}
-use Rattle.command_line.proofs.OptionLists.{AreLawful, HasOptions, IsSaid, all_words, is_said, options_hold, options_taken, said_of}
+use Rattle.command_line.proofs.Options.Given.{flag, number, worded}
+use Rattle.command_line.proofs.OptionLists.{AreLawful, HasOptions, IsRead, IsSaid, all_words, each_read, is_said, options_hold, options_taken, said_of}
 use Rattle.command_line.proofs.ScheduleWords.{is_command, schedules_found, schedules_taken, shape}
 
 -- its options, with what the words say: none of those for other drawn lists
@@ -33,6 +32,7 @@ options words request says =
     ∷ flag (codes "registers") (expects_registers request.expect)
     ∷ flag (codes "page") (shows_page request.expect)
     ∷ flag (codes "device-only-real") request.plan.device_only
+    ∷ worded (codes "driver") None
     ∷ flag (codes "explain") says.explained
     ∷ []
 
@@ -54,7 +54,7 @@ saying words request says = record {
 are_lawful : (words : List Text) (request : ScheduleRequest) (says : SaysRecommended words request) → AreLawful (options words request says)
 are_lawful words request says =
     let are = saying words request says in
-    (tt, (tt, (tt, (tt, (tt, (tt, (are.ring.lawful, (are.pairs.lawful, (tt, (tt, (tt, (tt, (tt, (tt, (tt, (tt, tt))))))))))))))))
+    (tt, (tt, (tt, (tt, (tt, (tt, (are.ring.lawful, (are.pairs.lawful, (tt, (tt, (tt, (tt, (tt, (tt, (tt, (tt, (tt, tt)))))))))))))))))
 
 words_are : (words : List Text) (request : ScheduleRequest) (says : SaysRecommended words request) → words ≡ codes "schedules" ∷ all_words (options words request says)
 words_are words request says =
@@ -101,7 +101,7 @@ recommended_found app words request program says =
           expected = says.expected;
         };
         uncounted = both-false _ _ (found.2 0 none (omega arith)).1 (both-false _ _ (found.2 1 none (omega arith)).1
-            (both-false _ _ (found.2 2 none (omega arith)).1 (found.2 3 none (omega arith)).1));
+            (both-false _ _ (found.2 2 none (omega arith)).1 (both-false _ _ (found.2 3 none (omega arith)).1 (found.2 15 none (omega arith)).1)));
       },
     )
 

@@ -1,5 +1,5 @@
 -- What clap makes of `schedules` and its options.
-use Rattle.std.proofs.Common.{◌≡◌, ◌∙◌, ap, ap₂, refl, arith, true, false, List, [], ◌∷◌, ◌++◌, codes, slice_index_or, Some}
+use Rattle.std.proofs.Common.{◌≡◌, ◌∙◌, ap, ap₂, refl, arith, true, false, List, [], ◌∷◌, ◌++◌, codes, slice_index_or, Some, None}
 use Rattle.std.specs.Prelude.{decimal, not}
 use Rattle.std.specs.Fmt.{digits}
 use Rattle.clap.specs.Simple.{Shape, new_shape}
@@ -12,8 +12,8 @@ use Rattle.command_line.specs.OptionWords.{is_head}
 use Rattle.command_line.specs.ScheduleWords.{HasSchedules, SaysSchedules, expects_json, expects_registers, says_expect, last_words}
 use Rattle.command_line.proofs.CommandLine.{IsNumber, is_number}
 use Rattle.command_line.proofs.Options.{Given, words_of}
-use Rattle.command_line.proofs.Options.Given.{flag, number}
-use Rattle.command_line.proofs.OptionLists.{AreLawful, HasOptions, IsCommand, IsSaid, all_words, is_said, options_found, options_taken, reads_itself, said_of}
+use Rattle.command_line.proofs.Options.Given.{flag, number, worded}
+use Rattle.command_line.proofs.OptionLists.{AreLawful, HasOptions, IsCommand, IsRead, IsSaid, all_words, each_read, is_said, options_hold, options_taken, reads_itself, said_of}
 
 -- `schedules` as clap builds it, which says nothing of the choices of `decode`
 abbrev pub shape : Shape
@@ -38,6 +38,7 @@ options words request says =
     ∷ flag (codes "registers") (expects_registers request.expect)
     ∷ flag (codes "page") (shows_page request.expect)
     ∷ flag (codes "device-only-real") request.plan.device_only
+    ∷ worded (codes "driver") None
     ∷ flag (codes "explain") says.explained
     ∷ []
 
@@ -71,7 +72,7 @@ saying words request says = record {
 are_lawful : (words : List Text) (request : ScheduleRequest) (says : SaysSchedules words request) → AreLawful (options words request says)
 are_lawful words request says =
     let are = saying words request says in
-    (tt, (tt, (are.seed, (are.moves, (are.count.lawful, (are.ring.lawful, (are.pairs.lawful, (tt, (tt, (are.refused.lawful, (tt, (tt, (tt, (tt, (tt, (tt, tt))))))))))))))))
+    (tt, (tt, (are.seed, (are.moves, (are.count.lawful, (are.ring.lawful, (are.pairs.lawful, (tt, (tt, (are.refused.lawful, (tt, (tt, (tt, (tt, (tt, (tt, (tt, tt)))))))))))))))))
 
 words_are : (words : List Text) (request : ScheduleRequest) (says : SaysSchedules words request) → words ≡ codes "schedules" ∷ all_words (options words request says)
 words_are words request says =
@@ -96,30 +97,32 @@ pub schedules_found : (app : App) (words : List Text) (request : ScheduleRequest
     → (rows : List Row) × (subcommand_of app words ≡ Some (codes "schedules", rows)) × HasSchedules rows request
 schedules_found app words request program says =
     let are = saying words request says in
-    let found = options_found app words (codes "schedules") shape (options words request says) program (has_options words request says) (are_lawful words request says)
+    let found = options_hold IsRead each_read app words (codes "schedules") shape (options words request says) program (has_options words request says) (are_lawful words request says)
     (words_are words request says) in
     let none : Given = flag [] false in (
       found.0,
       found.1,
       record {
-        cover = found.2 0 none (omega arith);
-        recommended = found.2 1 none (omega arith);
-        seed = record { value = found.2 2 none (omega arith) ∙ reads_itself request.seed says.seed_fits; fits = says.seed_fits };
-        moves = record { value = found.2 3 none (omega arith) ∙ reads_itself request.plan.moves says.moves_fits; fits = says.moves_fits };
-        count = record { value = found.2 4 none (omega arith) ∙ are.count.value; fits = are.count.fits };
+        cover = (found.2 0 none (omega arith)).0;
+        recommended = (found.2 1 none (omega arith)).0;
+        undriven = (found.2 15 none (omega arith)).1;
+        driver = says.undriven;
+        seed = record { value = (found.2 2 none (omega arith)).0 ∙ reads_itself request.seed says.seed_fits; fits = says.seed_fits };
+        moves = record { value = (found.2 3 none (omega arith)).0 ∙ reads_itself request.plan.moves says.moves_fits; fits = says.moves_fits };
+        count = record { value = (found.2 4 none (omega arith)).0 ∙ are.count.value; fits = are.count.fits };
         queues = record {
-          ring = record { value = found.2 5 none (omega arith) ∙ are.ring.value; fits = are.ring.fits };
-          pairs = record { value = found.2 6 none (omega arith) ∙ are.pairs.value; fits = are.pairs.fits };
-          off = found.2 7 none (omega arith);
-          head = found.2 8 none (omega arith);
-          device_only = found.2 14 none (omega arith);
+          ring = record { value = (found.2 5 none (omega arith)).0 ∙ are.ring.value; fits = are.ring.fits };
+          pairs = record { value = (found.2 6 none (omega arith)).0 ∙ are.pairs.value; fits = are.pairs.fits };
+          off = (found.2 7 none (omega arith)).0;
+          head = (found.2 8 none (omega arith)).0;
+          device_only = (found.2 14 none (omega arith)).0;
         };
-        refused = record { value = found.2 9 none (omega arith) ∙ are.refused.value; fits = are.refused.fits };
+        refused = record { value = (found.2 9 none (omega arith)).0 ∙ are.refused.value; fits = are.refused.fits };
         expect = record {
-          stands = found.2 10 none (omega arith);
-          json = found.2 11 none (omega arith);
-          registers = found.2 12 none (omega arith);
-          page = found.2 13 none (omega arith);
+          stands = (found.2 10 none (omega arith)).0;
+          json = (found.2 11 none (omega arith)).0;
+          registers = (found.2 12 none (omega arith)).0;
+          page = (found.2 13 none (omega arith)).0;
           expected = says.expected;
         };
       },

@@ -25,6 +25,10 @@ bounded_rule id most defaults = record (new_rule id) { long = Some id; value_nam
 abbrev pub number_rule : Text → Text → Rule
 number_rule id default = bounded_rule id 4294967295 (default ∷ [])
 
+-- an option with a word
+abbrev pub word_rule : Text → Rule
+word_rule id = record (named_rule id) { value_names = 1 }
+
 -- a flag
 abbrev pub flag_rule : Text → Rule
 flag_rule id = record (new_rule id) { long = Some id; action = Some SetTrue }

@@ -12,7 +12,7 @@ use Rattle.cover_command.specs.declared.request.CoverRequest.{CoverRequest}
 use Rattle.schedules.specs.declared.plan.SchedulePlan.{SchedulePlan}
 use Rattle.schedule_command.specs.Lists.{shows_page}
 use Rattle.schedule_command.specs.declared.request.ScheduleRequest.{ScheduleRequest}
-use Rattle.command_line.specs.OptionWords.{HasFlag, HasNumber, SaysNumber, SaysNumberBelow, bounded_rule, explain_rule, explain_words, flag_rule, flag_words, is_head, number_rule, queue_rules, with_rules}
+use Rattle.command_line.specs.OptionWords.{HasFlag, HasNumber, SaysNumber, SaysNumberBelow, bounded_rule, explain_rule, explain_words, flag_rule, flag_words, is_head, number_rule, queue_rules, with_rules, word_rule}
 use Rattle.command_line.specs.ShownWords.{says_json, says_registers}
 
 -- A required number, and a percentage.
@@ -35,6 +35,7 @@ schedules_app = with_rules (codes "schedules") (said_rule (codes "seed")
     ∷ flag_rule (codes "page")
     ∷ flag_rule (codes "device-only-real")
     ∷ flag_rule (codes "cover")
+    ∷ word_rule (codes "driver")
     ∷ flag_rule (codes "recommended")
     ∷ explain_rule
     ∷ [])
@@ -86,7 +87,7 @@ last_words expect device_only explained =
     ++ (flag_words (codes "--page") (shows_page expect)
     ++ (flag_words (codes "--device-only-real") device_only ++ explain_words explained))))
 
--- The words are `schedules` and its options in this order: the seed and the number of moves; `--off` if the queues
+-- The words are `schedules` and its options in this order, without `--driver`: the seed and the number of moves; `--off` if the queues
 -- begin disabled; `--head` if they report by a head word; and the last words.
 pub record SaysSchedules (words : List Text) (request : ScheduleRequest) : Type 0 where
   pub count : List Text
@@ -94,6 +95,7 @@ pub record SaysSchedules (words : List Text) (request : ScheduleRequest) : Type 
   pub pairs : List Text
   pub refused : List Text
   pub explained : Bool
+  pub undriven : request.plan.driver ≡ None
   pub seed_fits : request.seed < 2 ^ 32
   pub moves_fits : request.plan.moves < 2 ^ 32
   pub says_count : SaysNumber (codes "--count") 1 count request.count
@@ -107,12 +109,13 @@ pub record SaysSchedules (words : List Text) (request : ScheduleRequest) : Type 
       ++ (refused ++ last_words request.expect request.plan.device_only explained))))))
   pub expected : IsExpected request.expect
 
--- The recommended lists, for any queues.
+-- The recommended lists, for any queues, without a driver.
 pub record IsRecommended (request : ScheduleRequest) : Type 0 where
   pub seed : request.seed ≡ 82599
   pub count : request.count ≡ 4
   pub moves : request.plan.moves ≡ 2000
   pub refused : request.plan.refused ≡ 10
+  pub driver : request.plan.driver ≡ None
 
 -- The words are `schedules --recommended` and its options in the same order.
 pub record SaysRecommended (words : List Text) (request : ScheduleRequest) : Type 0 where
@@ -153,12 +156,14 @@ is_said id rows = by_words (option_and_then (λ r. r.source) (find (λ r. bytes_
 abbrev pub draws : List Row → Bool
 draws rows =
     is_said (codes "seed") rows || (is_said (codes "moves") rows || (is_said (codes "count") rows || (is_said (codes "ring") rows
-    || (is_said (codes "pairs") rows || (is_said (codes "off") rows || (is_said (codes "refused") rows || is_said (codes "recommended") rows))))))
+    || (is_said (codes "pairs") rows || (is_said (codes "off") rows || (is_said (codes "refused") rows
+    || (is_said (codes "recommended") rows || is_said (codes "driver") rows)))))))
 
 -- An option is given that determines the number, length or content of lists.
 abbrev pub counts : List Row → Bool
 counts rows =
-    is_said (codes "seed") rows || (is_said (codes "moves") rows || (is_said (codes "count") rows || is_said (codes "refused") rows))
+    is_said (codes "seed") rows || (is_said (codes "moves") rows || (is_said (codes "count") rows
+    || (is_said (codes "refused") rows || is_said (codes "driver") rows)))
 
 -- The values of the arguments.
 pub record HasExpect (rows : List Row) (expect : Option Shown) : Type 0 where
@@ -178,6 +183,8 @@ pub record HasQueues (rows : List Row) (plan : SchedulePlan) : Type 0 where
 pub record HasSchedules (rows : List Row) (request : ScheduleRequest) : Type 0 where
   pub cover : HasFlag rows (codes "cover") false
   pub recommended : HasFlag rows (codes "recommended") false
+  pub undriven : is_said (codes "driver") rows ≡ false
+  pub driver : request.plan.driver ≡ None
   pub seed : HasNumber rows (codes "seed") request.seed
   pub moves : HasNumber rows (codes "moves") request.plan.moves
   pub count : HasNumber rows (codes "count") request.count

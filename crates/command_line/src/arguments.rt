@@ -4,7 +4,7 @@ ghost use Rattle.clap.specs.Words.{new_rule, rule_of};
 ghost use Rattle.command_line.specs.CaptureWords.{port_rule, queue_rule};
 ghost use Rattle.command_line.specs.CommandLine.{choice_rule, hex_rule};
 ghost use Rattle.command_line.specs.FileWords.{file_rule};
-ghost use Rattle.command_line.specs.OptionWords.{flag_rule, named_rule, number_rule, optional_rule};
+ghost use Rattle.command_line.specs.OptionWords.{flag_rule, named_rule, number_rule, optional_rule, word_rule};
 ghost use Rattle.command_line.specs.Params.{rule_for};
 ghost use Rattle.command_line.specs.ScheduleWords.{said_rule, share_rule};
 
@@ -39,6 +39,12 @@ pub(crate) enum Param<'a> {
     /// A flag: an option without a value.
     Flag {
         id: &'a str,
+        help: &'a str,
+    },
+    /// An option with a word, and no default.
+    Word {
+        id: &'a str,
+        name: &'a str,
         help: &'a str,
     },
     /// An option with a file name, which may be repeated.
@@ -85,6 +91,7 @@ impl<'a> Param<'a> {
                 help,
             } => optional(alloc, id, name, value, help),
             Param::Flag { id, help } => flag(alloc, id, help),
+            Param::Word { id, name, help } => word(alloc, id, name, help),
             Param::File { id, name, help } => file(alloc, id, name, help),
             Param::Hex { help } => hex(alloc, help),
             Param::Choice {
@@ -155,6 +162,13 @@ fn flag<'a>(alloc: Global, id: &'a str, help: &'a str) -> Arg<'a>
     ensures local { result.global ≡ false }
 {
     named(alloc, id, help).action(ArgAction::SetTrue)
+}
+
+fn word<'a>(alloc: Global, id: &'a str, name: &'a str, help: &'a str) -> Arg<'a>
+    ensures rule { rule_of result ≡ word_rule id.entry.now }
+    ensures local { result.global ≡ false }
+{
+    named(alloc, id, help).value_name(name)
 }
 
 fn file<'a>(alloc: Global, id: &'a str, name: &'a str, help: &'a str) -> Arg<'a>

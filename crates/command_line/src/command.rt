@@ -13,6 +13,7 @@ ghost use Rattle.forward_command.specs.declared.printing.Printing.{Printing as P
 ghost use Rattle.command_line.specs.Sayings.{Holds, IsAsked, Says, Saying, name_of};
 
 use crate::captures::{from_capture_in, to_capture_in};
+use crate::drivers::driver_fault_in;
 use crate::lists::lists_in;
 use crate::mistakes::{completed, error_of};
 use crate::program::program;
@@ -44,11 +45,11 @@ const NOT_IN_PAGE: &str = "--page cannot be combined with --expect, --json, --re
 
 /// The error for options of drawn lists together with `--cover`.
 const NOT_DRAWN: &str =
-    "--cover cannot be combined with --seed, --moves, --count, --ring, --pairs, --off, --refused or --recommended";
+    "--cover cannot be combined with --seed, --moves, --count, --ring, --pairs, --off, --refused, --recommended or --driver";
 
 /// The error for options that select drawn lists together with `--recommended`.
 const NOT_CHOSEN: &str =
-    "--recommended cannot be combined with --seed, --moves, --count, --refused or --cover";
+    "--recommended cannot be combined with --seed, --moves, --count, --refused, --cover or --driver";
 
 /// The error for words without a command.
 const NO_COMMAND: &str = "a command is required";
@@ -128,8 +129,12 @@ fn schedules_fault_in<'a>(found: &ArgMatches<'a>) -> (ErrorKind, &'static str) {
         return (ErrorKind::ArgumentConflict, NOT_IN_PAGE);
     }
     if has_form && !found.get_flag("expect") {
-        (ErrorKind::ArgumentConflict, NOT_EXPECTED)
-    } else if found.get_flag("cover") {
+        return (ErrorKind::ArgumentConflict, NOT_EXPECTED);
+    }
+    if let Some(fault) = driver_fault_in(found) {
+        return fault;
+    }
+    if found.get_flag("cover") {
         (ErrorKind::ArgumentConflict, NOT_DRAWN)
     } else if found.get_flag("recommended") {
         (ErrorKind::ArgumentConflict, NOT_CHOSEN)

@@ -42,6 +42,7 @@ fn draws<'a>(matches: &ArgMatches<'a>) -> bool
         || is_said(matches, "off")
         || is_said(matches, "refused")
         || is_said(matches, "recommended")
+        || is_said(matches, "driver")
 }
 
 /// Whether an option is given among the words. An omitted one may still have a value, its default.

@@ -14,6 +14,7 @@ mod captures;
 mod command;
 mod covers;
 mod drawings;
+mod drivers;
 mod expects;
 mod files;
 mod lists;

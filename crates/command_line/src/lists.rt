@@ -9,11 +9,12 @@ ghost use Rattle.command_line.specs.ScheduleWords.{HasCover, HasLists, HasQueues
 
 use crate::command::{Asked, completion_in};
 use crate::covers::{cover_in, is_said};
+use crate::drivers::driven_in;
 use crate::expects::expect_in;
 use crate::reading::{flag_in, number_in};
 use clap::ArgMatches;
 use schedule_command::ScheduleRequest;
-use schedules::SchedulePlan;
+use schedules::{SchedulePlan, Thresholds};
 
 /// The recommended lists: seed, number of lists, moves per list, and maximum percentage of moves that do not happen.
 const SEED: u32 = 82_599;
@@ -40,12 +41,15 @@ pub(crate) fn lists_in<'a>(matches: &ArgMatches<'a>) -> Option<Asked<'a>>
     }
 }
 
-/// Reads the request for drawn lists: the recommended ones, or those with the given numbers.
+/// Reads the request for drawn lists: the recommended ones, those that a driver can follow, or those with the given
+/// numbers.
 fn drawn_in<'a>(matches: &ArgMatches<'a>) -> Option<ScheduleRequest>
     ensures { (request : Lists) → HasLists (rows_of (found_of matches.now)) request → result ≡ Some request }
 {
     if flag_in(matches, "recommended") {
         recommended_in(matches)
+    } else if is_said(matches, "driver") {
+        driven_in(matches)
     } else {
         schedules_in(matches)
     }
@@ -58,7 +62,7 @@ fn recommended_in<'a>(matches: &ArgMatches<'a>) -> Option<ScheduleRequest>
     if counts(matches) {
         return None;
     }
-    let plan = plan_in(matches, MOVES, REFUSED)?;
+    let plan = plan_in(matches, MOVES, REFUSED, None)?;
     let expect = expect_in(matches)?;
     Some(ScheduleRequest {
         plan,
@@ -76,6 +80,7 @@ fn counts<'a>(matches: &ArgMatches<'a>) -> bool
         || is_said(matches, "moves")
         || is_said(matches, "count")
         || is_said(matches, "refused")
+        || is_said(matches, "driver")
 }
 
 /// Reads the request for lists with a seed and a number of moves. Returns `None` if one of them is missing.
@@ -84,7 +89,7 @@ fn schedules_in<'a>(matches: &ArgMatches<'a>) -> Option<ScheduleRequest>
 {
     let moves = number_in(matches, "moves")?;
     let refused = number_in(matches, "refused")?;
-    let plan = plan_in(matches, moves, refused)?;
+    let plan = plan_in(matches, moves, refused, None)?;
     let seed = number_in(matches, "seed")?;
     let count = number_in(matches, "count")?;
     let expect = expect_in(matches)?;
@@ -97,9 +102,14 @@ fn schedules_in<'a>(matches: &ArgMatches<'a>) -> Option<ScheduleRequest>
 }
 
 /// Reads the plan of a list with this number of moves, for the queues in matches of `schedules`.
-fn plan_in<'a>(matches: &ArgMatches<'a>, moves: u32, refused: u32) -> Option<SchedulePlan>
+pub(crate) fn plan_in<'a>(
+    matches: &ArgMatches<'a>,
+    moves: u32,
+    refused: u32,
+    driver: Option<Thresholds>,
+) -> Option<SchedulePlan>
     ensures { (plan : Plan) → HasQueues (rows_of (found_of matches.now)) plan → moves ≡ plan.moves → refused ≡ plan.refused
-        → result ≡ Some plan }
+        → driver ≡ plan.driver → result ≡ Some plan }
 {
     let ring = number_in(matches, "ring")?;
     let pairs = number_in(matches, "pairs")?;
@@ -114,5 +124,6 @@ fn plan_in<'a>(matches: &ArgMatches<'a>, moves: u32, refused: u32) -> Option<Sch
         moves,
         refused,
         device_only,
+        driver,
     })
 }

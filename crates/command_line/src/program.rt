@@ -295,9 +295,14 @@ pub(crate) const SECOND: &[Entry] = &[
                 id: "cover",
                 help: "Print lists that together cover everything that a queue of 8 can do, each after a comment that names what it covers. Allows only --head, --expect with its forms, and --device-only-real beside it. Shows progress on standard error",
             },
+            Param::Word {
+                id: "driver",
+                name: "FIELDS",
+                help: "Draw lists that DPDK's ixgbe driver can follow. FIELDS are its thresholds, refill=F,report=R,clean=T, for rx_free_thresh, tx_rs_thresh and tx_free_thresh, which have to fit --ring of at least 32. Cannot be combined with --off, --head, --refused, --device-only-real, --cover or --recommended",
+            },
             Param::Flag {
                 id: "recommended",
-                help: "Print the recommended lists: 4 lists of 2,000 moves from a fixed seed, of which at most 10 in 100 are not enabled. Run it without and with --head. Cannot be combined with --seed, --moves, --count, --refused or --cover",
+                help: "Print the recommended lists: 4 lists of 2,000 moves from a fixed seed, of which at most 10 in 100 are not enabled. Run it without and with --head. Cannot be combined with --seed, --moves, --count, --refused, --cover or --driver",
             },
             EXPLAIN,
         ],

@@ -1,13 +1,37 @@
 -- One list more is printed.
-use Rattle.std.proofs.Common.{◌≡◌, ◌∙◌, ℕ, ◌+◌, List, [], ◌∷◌, ◌++◌, length, length-append, Option, refl, sym, ap, subst}
+use Rattle.std.proofs.Common.{◌≡◌, ◌∙◌, ℕ, ◌+◌, List, [], ◌∷◌, ◌++◌, length, length-append, Option, None, Some, refl, sym, ap, subst}
 use Rattle.std.specs.Prelude.{All}
 use Rattle.std.specs.Io.KnownBytes.{Appends}
 use Rattle.std.proofs.KnownBytes.{Appends-nil, Appends-trans}
 use Rattle.std.proofs.lemmas.List.{append-nil}
 use Rattle.std.proofs.lemmas.List.Concat.{flat_map-append}
 use Rattle.std.proofs.lemmas.List.Elements.{All-append, All-cons, All-nil}
-use Rattle.schedule_command.specs.Lists.{AreShown, IsPrinted, IsShown, PrintsLists, joined}
+use Rattle.commands.specs.Replay.{HasPage}
+use Rattle.commands.specs.declared.replay.Shown.{Shown}
+use Rattle.schedules.specs.Drawing.{IsDrawn}
+use Rattle.schedules.specs.declared.drawing.Drawn.{Drawn}
+use Rattle.schedule_command.specs.Lists.{AreShown, Follows, IsPrinted, IsShown, PrintsLists, joined, list_text, queues_of}
 use Rattle.schedule_command.specs.declared.request.ScheduleRequest.{ScheduleRequest}
+
+-- a list that is drawn as requested is printed alone, or with what `replay` prints for it
+pub printed-alone : (r : ScheduleRequest) (list : List Drawn) (text : List ℕ) → r.expect ≡ None → IsDrawn r.plan list → text ≡ list_text list → IsPrinted r text
+printed-alone r list text none drawn is = record {
+  list = list;
+  drawn = drawn;
+  more = [];
+  follows = subst (λ (e : Option Shown). Follows e (queues_of r) (list_text list) []) (sym none) refl;
+  text_is = is ∙ sym (append-nil (list_text list));
+}
+
+pub printed-with : (r : ScheduleRequest) (list : List Drawn) (form : Shown) (more text : List ℕ) → r.expect ≡ Some form → IsDrawn r.plan list
+    → HasPage (queues_of r form) (list_text list) more → text ≡ list_text list ++ more → IsPrinted r text
+printed-with r list form more text some drawn has is = record {
+  list = list;
+  drawn = drawn;
+  more = more;
+  follows = subst (λ (e : Option Shown). Follows e (queues_of r) (list_text list) more) (sym some) has;
+  text_is = is;
+}
 
 -- so many lists were printed; and there can be such queues, if there was one
 pub record PrintedSoFar (r : ScheduleRequest) (k : ℕ) (old now : Option (List ℕ)) : Type 0 where

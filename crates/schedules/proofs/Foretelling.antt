@@ -24,7 +24,7 @@ use Rattle.ring_machine.proofs.QueuesRunning.{did-made, did-refused}
 use Rattle.ring_machine.proofs.shared.Running.{happened-append}
 use Rattle.schedules.specs.declared.drawing.Drawn.{Drawn}
 use Rattle.schedules.specs.declared.plan.SchedulePlan.{SchedulePlan}
-use Rattle.schedules.specs.Drawing.{Draws, IsDrawn, Surely, happening, moves_in, world_of}
+use Rattle.schedules.specs.Drawing.{Draws, IsDrawn, Surely, allowed, happening, moves_in, world_of}
 
 -- what a step's answer says of it
 pub drawn-as : (old new : QueueParts) (d : Drawn) (result : Result Note MachineError) → d.happens ≡ is_ok result → QueuesFollow old d.action result new → Draws old d new
@@ -88,7 +88,7 @@ pub record SoFar (p : SchedulePlan) (l : List Drawn) (refused : ℕ) (queues : Q
   pub agrees : QueuesAgree queues (after_moves (world_of p) (moves_in l))
   pub foretold : map (λ d. d.happens) l ≡ happening (world_of p) (moves_in l)
   pub counted : length l ≡ moves_happened (world_of p) (moves_in l) + refused
-  pub few : 100 * refused ≤ p.refused * length l
+  pub few : 100 * refused ≤ allowed p * length l
 
 pub none-drawn : (p : SchedulePlan) (queues : QueueParts) → QueuesAgree queues (world_of p) → SoFar p [] 0 queues
 none-drawn p queues agrees = record { agrees = agrees; foretold = refl; counted = refl; few = omega arith }
@@ -96,7 +96,7 @@ none-drawn p queues agrees = record { agrees = agrees; foretold = refl; counted 
 -- the list is longer by a move, which happened or was refused
 one-more : (p : SchedulePlan) (l : List Drawn) (before later : QueueParts) (d : Drawn) (refused count : ℕ) → HasSome p → Draws before d later
     → QueuesAgree before (after_moves (world_of p) (moves_in l)) → map (λ d. d.happens) l ≡ happening (world_of p) (moves_in l)
-    → length l ≡ moves_happened (world_of p) (moves_in l) + refused → (if d.happens then 1 else 0) + count ≡ 1 → 100 * (refused + count) ≤ p.refused * (length l + 1)
+    → length l ≡ moves_happened (world_of p) (moves_in l) + refused → (if d.happens then 1 else 0) + count ≡ 1 → 100 * (refused + count) ≤ allowed p * (length l + 1)
     → SoFar p (l ++ d ∷ []) (refused + count) later
 unfolding Draws
 one-more p l before later d refused count queues draws agrees foretold counted one few =
@@ -116,14 +116,14 @@ one-more p l before later d refused count queues draws agrees foretold counted o
           ∙ (ap₂ (λ (bs : List Bool) (b : Bool). bs ++ b ∷ []) foretold drew.0
           ∙ (sym (happening-append w (moves_in l) (queue_move d.action)) ∙ sym (ap (happening w) moves)));
       counted = omega arith;
-      few = subst (λ (k : ℕ). 100 * (refused + count) ≤ p.refused * k) (sym lengths) few;
+      few = subst (λ (k : ℕ). 100 * (refused + count) ≤ allowed p * k) (sym lengths) few;
     }
 
 pub happened-more : (p : SchedulePlan) (l : List Drawn) (before later : QueueParts) (d : Drawn) (refused : ℕ) → HasSome p → Draws before d later
     → d.happens ≡ true → SoFar p l refused before → SoFar p (l ++ d ∷ []) refused later
 happened-more p l before later d refused queues draws happens s =
     let one : (if d.happens then 1 else 0) + 0 ≡ 1 = ap (λ (b : Bool). (if b then 1 else 0) + 0) happens in
-    let more = wider refused p.refused (length l) s.few in
+    let more = wider refused (allowed p) (length l) s.few in
     let none : refused + 0 ≡ refused = omega arith in
     subst (λ (k : ℕ). SoFar p (l ++ d ∷ []) k later) none (one-more p l before later d refused 0 queues draws s.agrees s.foretold s.counted one more)
   where
@@ -131,7 +131,7 @@ happened-more p l before later d refused queues draws happens s =
     wider refused percent long few = let split : percent * (long + 1) ≡ percent * long + percent = omega arith in omega arith
 
 pub refused-more : (p : SchedulePlan) (l : List Drawn) (before later : QueueParts) (d : Drawn) (refused : ℕ) → HasSome p → Draws before d later
-    → d.happens ≡ false → 100 * (refused + 1) ≤ p.refused * (length l + 1) → SoFar p l refused before → SoFar p (l ++ d ∷ []) (refused + 1) later
+    → d.happens ≡ false → 100 * (refused + 1) ≤ allowed p * (length l + 1) → SoFar p l refused before → SoFar p (l ++ d ∷ []) (refused + 1) later
 refused-more p l before later d refused queues draws happens owed s =
     one-more p l before later d refused 1 queues draws s.agrees s.foretold s.counted (ap (λ (b : Bool). (if b then 1 else 0) + 1) happens) owed
 
@@ -140,8 +140,8 @@ pub all-drawn : (p : SchedulePlan) (l : List Drawn) (refused : ℕ) (queues : Qu
 all-drawn p l refused queues whole s = record {
   count = whole;
   foretold = s.foretold;
-  few = let few = subst (λ (k : ℕ). 100 * refused ≤ p.refused * k) whole s.few in let counted = sym whole ∙ s.counted in
-      joined p.moves (moves_happened (world_of p) (moves_in l)) refused (p.refused * p.moves) counted few;
+  few = let few = subst (λ (k : ℕ). 100 * refused ≤ allowed p * k) whole s.few in let counted = sym whole ∙ s.counted in
+      joined p.moves (moves_happened (world_of p) (moves_in l)) refused (allowed p * p.moves) counted few;
 }
   where
     joined : (long happened refused most : ℕ) → long ≡ happened + refused → 100 * refused ≤ most → 100 * long ≤ 100 * happened + most
@@ -156,14 +156,14 @@ not-sure p l refused queues d are s sure =
 
 -- the next move was drawn, and is counted where it was refused
 pub next-drawn : (p : SchedulePlan) (l : List Drawn) (before later : QueueParts) (d : Drawn) (refused count : ℕ) (may : Bool) → HasSome p → Draws before d later
-    → (may ≡ false → Surely before d) → (may ≡ true → 100 * (refused + 1) ≤ p.refused * (length l + 1)) → count ≡ from_bool (not d.happens)
+    → (may ≡ false → Surely before d) → (may ≡ true → 100 * (refused + 1) ≤ allowed p * (length l + 1)) → count ≡ from_bool (not d.happens)
     → SoFar p l refused before → SoFar p (l ++ d ∷ []) (refused + count) later
 next-drawn p l before later d refused count may queues draws sure owed counted s = by-answer d.happens refl
   where
     put : (k : ℕ) → count ≡ k → SoFar p (l ++ d ∷ []) (refused + k) later → SoFar p (l ++ d ∷ []) (refused + count) later
     put k is = subst (λ (k : ℕ). SoFar p (l ++ d ∷ []) (refused + k) later) (sym is)
 
-    by-leave : (b : Bool) → may ≡ b → d.happens ≡ false → 100 * (refused + 1) ≤ p.refused * (length l + 1)
+    by-leave : (b : Bool) → may ≡ b → d.happens ≡ false → 100 * (refused + 1) ≤ allowed p * (length l + 1)
     by-leave true is off = owed is
     by-leave false is off = absurd (let bad : true ≡ false = sym (not-sure p l refused before d queues s (sure is)) ∙ off in let never : ⊥ = cc bad in never)
 

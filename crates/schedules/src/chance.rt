@@ -33,6 +33,12 @@ impl Chance {
         self.below(n) == 0
     }
 
+    /// A random index of a list with `n` elements; 0 if it has none.
+    pub fn index(&mut self, n: usize) -> usize {
+        let n = u32::try_from(n).unwrap_or(1);
+        self.below(n.max(1)) as usize
+    }
+
     /// A random index, with these weights; 0 if all of them are 0.
     pub fn place(&mut self, weights: &[u32]) -> usize {
         let mut sum: u32 = 0;

@@ -2,7 +2,7 @@
 ghost use Rattle.std.specs.Prelude.{◌≡◌, ◌≤◌, ◌+◌, ◌*◌, ◌↔◌, ◌⊎◌, false, true, IfErr, IfOk};
 ghost use Rattle.ring_machine.specs.Queues.{AreQueues};
 ghost use Rattle.refusals.specs.declared.errors.MachineError.TheVariants.{Memory, RingLength};
-ghost use Rattle.schedules.specs.Drawing.{Draws, IsDrawn, Surely};
+ghost use Rattle.schedules.specs.Drawing.{Draws, IsDrawn, Surely, allowed};
 
 use crate::plan::SchedulePlan;
 use crate::proposing::Proposer;
@@ -28,9 +28,10 @@ fn make(queues: &mut Queues, proposer: &mut Proposer, action: Move) -> Drawn
     ensures action { result.action ≡ action }
     ensures kept { result.happens ≡ false → queues.new ≡ queues.old }
 {
-    let happens = queues.step(action).is_ok();
-    if happens {
-        proposer.made(&action);
+    let result = queues.step(action);
+    let happens = result.is_ok();
+    if let Ok(note) = result {
+        proposer.made(&action, &note);
     }
     Drawn { action, happens }
 }
@@ -77,9 +78,19 @@ fn draw_next(queues: &mut Queues, proposer: &mut Proposer, may_be_refused: bool)
 // Whether one more move may be refused, after `drawn` moves of which `refused` were refused.
 fn is_owed(plan: &SchedulePlan, drawn: u32, refused: u64) -> bool
     requires { refused ≤ drawn }
-    ensures { result ≡ true → 100 * (refused + 1) ≤ plan.now.refused * (drawn + 1) }
+    ensures { result ≡ true → 100 * (refused + 1) ≤ allowed plan.now * (drawn + 1) }
 {
-    100 * (refused + 1) <= u64::from(plan.refused).saturating_mul(u64::from(drawn) + 1)
+    100 * (refused + 1) <= u64::from(allowed(plan)).saturating_mul(u64::from(drawn) + 1)
+}
+
+// The maximum percentage of moves that do not happen.
+fn allowed(plan: &SchedulePlan) -> u32
+    ensures { result ≡ allowed plan.now }
+{
+    match plan.driver {
+        Some(_) => 0,
+        None => plan.refused,
+    }
 }
 
 /// Draws list `list` of this seed. Returns `RingLength` if such queues cannot exist, and `Memory` only if memory is
@@ -99,7 +110,9 @@ pub fn draw(
     let _action: Option<Move> = None;
     let (pairs, ring) = (plan.pairs as usize, plan.ring as usize);
     let mut queues = Queues::new_with(alloc, pairs, ring, plan.enabled, plan.completion)?;
-    let mut proposer = Proposer::new(plan, seed, list);
+    let Ok(mut proposer) = Proposer::new(alloc, plan, seed, list) else {
+        return Err(MachineError::Memory);
+    };
     let mut drawn = Vec::new(alloc);
     let mut refused: u64 = 0;
     for k in 0..plan.moves {

@@ -6,7 +6,7 @@ use limits::{BUFFER_BYTES, LEAST_FRAME, MOST_FRAME};
 use ring_machine::{Move, RxStep, SegmentDescriptor, SegmentLength, TxStep};
 
 /// The maximum number of segments of a drawn frame: the room of a ring of 8.
-const MOST_SEGMENTS: u32 = 7;
+pub(crate) const MOST_SEGMENTS: u32 = 7;
 
 /// The mean number of a queue's moves per mood.
 const MOOD_MOVES: u32 = 200;
@@ -23,8 +23,8 @@ pub(crate) struct Lane {
     unreported: bool,
 }
 
-// A random frame length. Most frames are a single segment.
-fn frame_bytes(chance: &mut Chance, most: u32) -> u32 {
+/// A random frame length of at most `most` bytes. Most frames are a single segment.
+pub(crate) fn frame_bytes(chance: &mut Chance, most: u32) -> u32 {
     let range = match chance.below(4) {
         0 => 51,
         1 => 1487,
@@ -80,6 +80,11 @@ impl Lane {
         }
     }
 
+    /// Whether the next segment is the first of its frame.
+    pub fn is_whole(&self) -> bool {
+        self.left == self.bytes
+    }
+
     /// The segment that the controller stores next: a full buffer, or the rest of the frame.
     pub fn segment(&self) -> Option<(SegmentLength, bool)> {
         let len = self.left.min(self.fill);
@@ -114,12 +119,15 @@ impl Lane {
         )
     }
 
+    /// Records a stored segment.
+    pub fn stored(&mut self, chance: &mut Chance, len: SegmentLength, eop: bool) {
+        self.go_on(chance, u32::from(len.bytes()), eop);
+    }
+
     /// Records a move of the queue.
     pub fn made(&mut self, chance: &mut Chance, action: &Move) {
         match action {
-            Move::Receive(_, RxStep::Store(len, eop)) => {
-                self.go_on(chance, u32::from(len.bytes()), *eop);
-            }
+            Move::Receive(_, RxStep::Store(len, eop)) => self.stored(chance, *len, *eop),
             Move::Transmit(_, TxStep::Post(posting)) => {
                 if posting.eop() {
                     self.unreported = !posting.rs();

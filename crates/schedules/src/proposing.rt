@@ -1,6 +1,7 @@
 //! Candidates for the next move, drawn by weight.
 
 use crate::chance::Chance;
+use crate::driver::Driver;
 use crate::lane::Lane;
 use crate::plan::SchedulePlan;
 use crate::weights::{receive_kinds, receive_weights, transmit_kinds, transmit_weights};
@@ -8,6 +9,8 @@ use limits::MOST_PAIRS;
 use ring_machine::{
     ControlStep, Move, QueueNumber, RxStep, SegmentDescriptor, SegmentLength, TxStep,
 };
+use ring_model::Note;
+use std::alloc::{AllocError, Global};
 
 /// The state of drawing: the random numbers, and the state of each queue.
 #[derive(Drop)]
@@ -17,6 +20,7 @@ pub(crate) struct Proposer {
     device_only: bool,
     receive: [Lane; MOST_PAIRS],
     transmit: [Lane; MOST_PAIRS],
+    driver: Option<Driver>,
 }
 
 // The handshake step with this number, 0 to 4.
@@ -78,8 +82,13 @@ fn transmit_step(
 }
 
 impl Proposer {
-    /// The state for list `list` of this seed.
-    pub fn new(plan: &SchedulePlan, seed: u64, list: u64) -> Proposer {
+    /// The state for list `list` of this seed. Returns an error only if memory is refused.
+    pub fn new(
+        alloc: Global,
+        plan: &SchedulePlan,
+        seed: u64,
+        list: u64,
+    ) -> Result<Proposer, AllocError> {
         let mut chance = Chance::new(seed, list);
         let lane = Lane::new(&mut chance);
         let mut receive = [lane; MOST_PAIRS];
@@ -90,13 +99,18 @@ impl Proposer {
         for lane in transmit.as_mut_slice() {
             *lane = Lane::new(&mut chance);
         }
-        Proposer {
+        let driver = match plan.driver {
+            Some(thresholds) => Some(Driver::new(alloc, plan, thresholds, &mut chance)?),
+            None => None,
+        };
+        Ok(Proposer {
             chance,
             pairs: plan.pairs,
             device_only: plan.device_only,
             receive,
             transmit,
-        }
+            driver,
+        })
     }
 
     // A random buffer number.
@@ -109,8 +123,17 @@ impl Proposer {
         n > 0 && self.chance.one_in(n)
     }
 
-    /// A candidate for the next move, by weight; with `any`, each kind is equally likely.
+    /// A candidate for the next move: the driver's, if there is one. Otherwise by weight; with `any`, each kind is
+    /// equally likely.
     pub fn propose(&mut self, any: bool) -> Option<Move> {
+        match self.driver.as_mut() {
+            Some(driver) => driver.propose(&mut self.chance),
+            None => self.propose_by_weight(any),
+        }
+    }
+
+    // A candidate by weight.
+    fn propose_by_weight(&mut self, any: bool) -> Option<Move> {
         let number = self.chance.below(self.pairs.max(1));
         let queue = QueueNumber::new(u8::try_from(number).ok()?)?;
         if self.chance.one_in(2) {
@@ -141,8 +164,16 @@ impl Proposer {
         Some(Move::Transmit(queue, step))
     }
 
-    /// Records a move.
-    pub fn made(&mut self, action: &Move) {
+    /// Records a move with its note.
+    pub fn made(&mut self, action: &Move, note: &Note) {
+        match self.driver.as_mut() {
+            Some(driver) => driver.made(&mut self.chance, action, note),
+            None => self.made_by_lane(action),
+        }
+    }
+
+    // Records a move in the lane of its queue.
+    fn made_by_lane(&mut self, action: &Move) {
         match action {
             Move::Receive(queue, _) => {
                 if let Some(lane) = self.receive.get_mut(usize::from(queue.number())) {

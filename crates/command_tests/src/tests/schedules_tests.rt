@@ -35,6 +35,27 @@ fn lists_and_refusals(rt: HostRuntime) {
     }
 }
 
+/// The start of a driver's receive queue with a ring of 32: its thresholds and the seed do not matter.
+const START: &str =
+    "r0 A1 0\nr0 A1 1\nr0 A1 2\nr0 A1 3\nr0 A1 4\nr0 A1 5\nr0 A1 6\nr0 A1 7\nr0 A1 8\nr0 A1 9\nr0 A1 10\nr0 A1 11\nr0 A1 12\nr0 A1 13\nr0 A1 14\nr0 A1 15\nr0 A1 16\nr0 A1 17\nr0 A1 18\nr0 A1 19\nr0 A1 20\nr0 A1 21\nr0 A1 22\nr0 A1 23\nr0 A1 24\nr0 A1 25\nr0 A1 26\nr0 A1 27\nr0 A1 28\nr0 A1 29\nr0 A1 30\nr0 A2\n# end\n";
+
+const DRIVEN: &[&str] = &[
+    "schedules",
+    "--driver",
+    "refill=8,report=16,clean=16",
+    "--ring",
+    "32",
+    "--seed",
+    "9",
+    "--moves",
+    "32",
+];
+
+#[test]
+fn a_driver_begins_with_its_start(rt: HostRuntime) {
+    comes_to_text(&rt, rt.alloc(), DRIVEN, "", (START, ""))
+}
+
 const EXPECT: &[&str] = &["schedules", "--seed", "1", "--moves", "4", "--expect"];
 
 /// The expected text after a list is the output of `replay`.

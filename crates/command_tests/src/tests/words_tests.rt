@@ -37,6 +37,15 @@ const NOT_CHOSEN: &str = "--recommended cannot be combined with";
 /// The error for the form of the expected output without that output.
 const NOT_EXPECTED: &str = "--json and --registers need --expect";
 
+/// The error for a malformed `--driver`.
+const NO_THRESHOLDS: &str = "--driver takes refill=F,report=R,clean=T";
+
+/// The error for thresholds that do not fit the rings.
+const NOT_FITTING: &str = "--driver needs --ring N of at least 32 and thresholds that fit it";
+
+/// The error for an option that a driver cannot follow.
+const NOT_DRIVEN: &str = "--driver cannot be combined with";
+
 /// The error for a malformed `--picture`, or for `--picture` together with `--json`.
 const NOT_SHOWN: &str = "--picture takes no value, or each or last";
 
@@ -147,6 +156,61 @@ const WRONG: &[(&[&str], &str)] = &[
     (
         &["schedules", "--seed", "1", "--moves", "1", "--json"],
         NOT_EXPECTED,
+    ),
+    (&["schedules", "--driver", "refill=8"], NO_THRESHOLDS),
+    (
+        &["schedules", "--driver", "refill=8,report=08,clean=8"],
+        NO_THRESHOLDS,
+    ),
+    (
+        &["schedules", "--driver", "report=8,refill=8,clean=8"],
+        NO_THRESHOLDS,
+    ),
+    (
+        &["schedules", "--driver", "refill=8,report=8,clean=8,"],
+        NO_THRESHOLDS,
+    ),
+    (
+        &["schedules", "--driver", "refill=1,report=1,clean=1"],
+        NOT_FITTING,
+    ),
+    (
+        &[
+            "schedules",
+            "--ring",
+            "64",
+            "--driver",
+            "refill=63,report=8,clean=8",
+        ],
+        NOT_FITTING,
+    ),
+    (&["schedules", "--off", "--driver", "refill=8"], NOT_DRIVEN),
+    (&["schedules", "--head", "--driver", "refill=8"], NOT_DRIVEN),
+    (
+        &["schedules", "--refused", "0", "--driver", "refill=8"],
+        NOT_DRIVEN,
+    ),
+    (
+        &["schedules", "--device-only-real", "--driver", "refill=8"],
+        NOT_DRIVEN,
+    ),
+    (
+        &["schedules", "--cover", "--driver", "refill=8"],
+        NOT_DRIVEN,
+    ),
+    (
+        &["schedules", "--recommended", "--driver", "refill=8"],
+        NOT_DRIVEN,
+    ),
+    (
+        &[
+            "schedules",
+            "--ring",
+            "64",
+            "--driver",
+            "refill=8,report=8,clean=8",
+        ],
+        "--seed",
     ),
     (&["replay", "--lists", "--lists"], "--lists"),
     (&["replay", "--explain", "--explain"], "--explain"),

@@ -1,5 +1,5 @@
 -- The flag tells which lists are drawn.
-use Rattle.std.proofs.Common.{◌≡◌, ⊎_elim, Bool, true, false}
+use Rattle.std.proofs.Common.{◌≡◌, ◌∙◌, ⊎_elim, Bool, true, false}
 use Rattle.command_line.proofs.lists.drawn_in.Goals as goal
 
 never : (stands : Bool) → stands ≡ true → stands ≡ false → ⊥
@@ -9,6 +9,10 @@ pub returns-then-flag_in : goal.returns-then-flag_in
 returns-then-flag_in c request has =
     ⊎_elim (λ h. absurd (never _ c.if-flag_in.true (c.flag_in.ensures false h.recommended))) (λ h. c.recommended_in.ensures request h) has
 
-pub returns-else-flag_in : goal.returns-else-flag_in
-returns-else-flag_in c request has =
+pub returns-then-is_said : goal.returns-then-is_said
+returns-then-is_said c request has =
+    ⊎_elim (λ h. absurd (never _ c.if-is_said.true (c.is_said.ensures ∙ h.undriven))) (λ h. absurd (never _ (c.flag_in.ensures true h.recommended) c.if-flag_in.false)) has
+
+pub returns-else-is_said : goal.returns-else-is_said
+returns-else-is_said c request has =
     ⊎_elim (λ h. c.schedules_in.ensures request h) (λ h. absurd (never _ (c.flag_in.ensures true h.recommended) c.if-flag_in.false)) has

@@ -1,5 +1,5 @@
 -- The plan, the numbers and what is expected are those of the request.
-use Rattle.std.proofs.Common.{◌≡◌, ap, Option, Some, None, unwrap_or}
+use Rattle.std.proofs.Common.{◌≡◌, ap, sym, Option, Some, None, unwrap_or}
 use Rattle.commands.specs.declared.replay.Shown.{Shown}
 use Rattle.schedules.specs.declared.plan.SchedulePlan.{SchedulePlan}
 use Rattle.schedule_command.specs.declared.request.ScheduleRequest.{ScheduleRequest}
@@ -9,7 +9,7 @@ use Rattle.command_line.proofs.lists.schedules_in.Goals as goal
 pub returns-in_err-plan : goal.returns-in_err-plan
 returns-in_err-plan c request has =
     let none : None ≡ Some request.plan = c.in_err-plan.ensures request.plan has.queues (c.in_ok-moves.ensures request.plan.moves has.moves)
-    (c.in_ok-refused.ensures request.plan.refused has.refused) in
+    (c.in_ok-refused.ensures request.plan.refused has.refused) (sym has.driver) in
     cc
 
 pub returns-in_err-expect : goal.returns-in_err-expect
@@ -18,7 +18,7 @@ returns-in_err-expect c request has = let none : None ≡ Some request.expect = 
 pub returns : goal.returns
 returns c request has =
     let plan = c.in_ok-plan.ensures request.plan has.queues (c.in_ok-moves.ensures request.plan.moves has.moves)
-    (c.in_ok-refused.ensures request.plan.refused has.refused) in
+    (c.in_ok-refused.ensures request.plan.refused has.refused) (sym has.driver) in
     ap (λ (r : ScheduleRequest). Some r)
     (request-from request _ _ _ _ (ap (λ (o : Option SchedulePlan). unwrap_or o request.plan) plan)
     (c.in_ok-seed.ensures request.seed has.seed) (c.in_ok-count.ensures request.count has.count)

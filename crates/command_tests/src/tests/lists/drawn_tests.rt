@@ -3,7 +3,7 @@
 use crate::tests::wanted::{holds, same};
 use coverage::is_data;
 use ring_machine::{Completion, ControlStep, Move, RxStep, TxStep};
-use schedules::{Drawn, SchedulePlan, draw};
+use schedules::{Drawn, SchedulePlan, Thresholds, draw};
 use std::alloc::{AllocError, Global};
 use std::process::Abort;
 
@@ -16,6 +16,7 @@ const PLAN: SchedulePlan = SchedulePlan {
     moves: 1000,
     refused: 0,
     device_only: false,
+    driver: None,
 };
 
 /// The kinds of moves that are counted.
@@ -223,6 +224,59 @@ fn a_device_of_silicon_has_only_data(rt: HostRuntime) {
     }
 }
 
+/// For a driver. No move is refused, whatever the plan says.
+const DRIVEN: SchedulePlan = SchedulePlan {
+    pairs: 2,
+    ring: 32,
+    driver: Some(Thresholds {
+        refill: 8,
+        report: 8,
+        clean: 16,
+    }),
+    ..DEVICE
+};
+
+#[test]
+fn a_driver_has_only_data_that_happens(rt: HostRuntime) {
+    let drawn = draw(rt.alloc(), &DRIVEN, 4, 0).expect(&rt, "a list");
+    for d in drawn.as_slice() {
+        holds(&rt, d.happens && is_data(d.action));
+    }
+}
+
+/// A ring, the thresholds refill, report and clean, and whether DPDK's driver accepts them.
+const FITTING: &[(u32, [u32; 3], bool)] = &[
+    (64, [32, 32, 32], true),
+    (32, [0, 1, 1], true),
+    (16, [0, 1, 1], false),
+    (64, [62, 32, 32], true),
+    (64, [63, 32, 32], false),
+    (64, [0, 0, 32], false),
+    (64, [0, 3, 32], false),
+    (64, [0, 32, 31], false),
+    (64, [0, 32, 33], false),
+    (64, [0, 1, 60], true),
+    (64, [0, 1, 61], false),
+    (4096, [0, 64, 64], false),
+    (4096, [0, 32, 4064], true),
+];
+
+#[test]
+fn thresholds_fit_as_for_dpdk(rt: HostRuntime) {
+    for (ring, [refill, report, clean], fits) in FITTING {
+        let thresholds = Thresholds {
+            refill: *refill,
+            report: *report,
+            clean: *clean,
+        };
+        same(
+            &rt,
+            (thresholds, thresholds.fit(*ring)),
+            (thresholds, *fits),
+        );
+    }
+}
+
 /// Queues that cannot exist.
 const NO_QUEUES: &[(u32, u32)] = &[(0, 8), (9, 8), (1, 0), (1, 4), (1, 12), (1, 8192)];
 
@@ -254,6 +308,8 @@ fn queues_that_cannot_be_are_refused(rt: HostRuntime) {
 // This also passes when any one allocation fails, as with `rt try --test --fail-alloc N`.
 #[test]
 fn want_of_memory(rt: HostRuntime) {
-    let told = answer(rt.alloc(), &PLAN);
-    holds(&rt, told == (1000, 0) || told == (0, 13));
+    for plan in [PLAN, DRIVEN].as_slice() {
+        let told = answer(rt.alloc(), plan);
+        holds(&rt, told == (1000, 0) || told == (0, 13));
+    }
 }

@@ -18,6 +18,7 @@ const PLAN: SchedulePlan = SchedulePlan {
     moves: 4,
     refused: 0,
     device_only: false,
+    driver: None,
 };
 
 const REQUEST: ScheduleRequest = ScheduleRequest {

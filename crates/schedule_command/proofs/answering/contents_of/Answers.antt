@@ -1,7 +1,7 @@
 -- One list more is shown.
 use Rattle.std.proofs.Common.{◌∙◌, ◌++◌, List, ℕ, ap}
 use Rattle.std.specs.String.{string_bytes}
-use Rattle.schedule_command.proofs.Printing.{none-shown, one-shown}
+use Rattle.schedule_command.proofs.Printing.{one-shown}
 use Rattle.schedule_command.proofs.answering.contents_of.Goals as goal
 
 pub loop-number-preserved : goal.loop-number-preserved
