@@ -1,5 +1,0 @@
-pub mod Copies
-pub mod Forwards
-pub mod Handshakes
-pub mod BothMet
-pub mod Taken

@@ -1,0 +1,10 @@
+pub mod Copies
+pub mod Forwards
+pub mod Handshakes
+pub mod BothMet
+pub mod Taken
+pub mod Received
+pub mod Countdown
+pub mod Sent
+pub mod Relayed
+pub mod Layered

@@ -1,0 +1,9 @@
+pub mod Copies
+pub mod Enabling
+pub mod Fetching
+pub mod Forwarding
+pub mod Storing
+pub mod Passing
+pub mod Sending
+pub mod Relaying
+pub mod Serving

@@ -1,0 +1,46 @@
+//! The cost of a frame through a receive ring that two threads share.
+//!
+//! `storing` and `taking` are the threads of the controller and the driver. `passing` makes the ring, runs both and
+//! measures the time.
+//!
+//! All frames that it counts have passed: at the end the two ends meet, and the driver's record has that many frames,
+//! each byte for byte the frame that the controller stored.
+
+mod passing;
+mod storing;
+mod taking;
+
+use crate::kit::{batch_plan, refuse, report};
+use anyhow::Result;
+use limits::MOST_RING;
+use passing::pass;
+use std::alloc::Global;
+use std::process::ExitCode;
+use std::rt::Clock;
+use std::sync::Wait;
+use std::thread::Threads;
+
+/// The usage, printed when the command line is wrong.
+const USAGE: &str = "Usage: ring_bench rx --ring N --frames N --size N --batch N
+
+Passes frames through a receive ring with a thread at each end. Prints the cost of a frame.
+
+  --ring        descriptors of the ring, a power of two from 8 to 4096
+  --frames      number of frames, from 1
+  --size        bytes of each frame, 14 to 2048
+  --batch       the driver publishes posted buffers after at most this many frames, 1 to 4096
+
+Example:
+  ring_bench rx --ring 512 --frames 1000000 --size 60 --batch 32";
+
+/// Measures with these options, or prints the usage.
+pub fn measure<R: Threads + Wait + Clock + Sync + Print + Eprint>(
+    rt: &R,
+    alloc: Global,
+    options: &[String],
+) -> Result<ExitCode> {
+    match batch_plan(options, 8, MOST_RING as u32) {
+        Some(plan) => report(rt, plan.load.frames, pass(rt, alloc, plan)),
+        None => refuse(rt, USAGE),
+    }
+}

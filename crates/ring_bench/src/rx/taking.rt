@@ -1,0 +1,66 @@
+//! The driver's thread of a receive ring.
+ghost use Rattle.std.specs.Prelude.{◌≡◌, ◌+◌, ◌≤◌, length};
+ghost use Rattle.rx_ring.specs.Ends.{taken};
+ghost use Rattle.ring_bench.specs.Passing.{CanAsk, CanTake, TookAll};
+
+use crate::kit::{Patience, Tally, await_enabling};
+use rx_ring::{DriverEnd, Poll, RxDriverEnd, RxRing};
+use std::sync::Wait;
+
+/// The result of the driver's thread.
+#[derive(Drop)]
+pub struct Reception {
+    pub driver: RxDriverEnd,
+    pub tally: Tally,
+}
+
+/// Enables the queue, takes `frames` frames and posts each buffer again. Publishes the postings once a batch, and when
+/// no more frames are done.
+pub fn take_all<R: Wait>(
+    rt: &R,
+    ring: &RxRing,
+    mut driver: RxDriverEnd,
+    frames: u32,
+    batch: u32,
+) -> Reception
+    requires can { CanAsk ring.now driver }
+    ensures { TookAll ring.now frames result.driver }
+{
+    await_enabling(rt, ring, &mut driver);
+    let mut patience = Patience::new();
+    let mut tally = Tally::new();
+    let mut left = frames;
+    for _ in rt.forever() {
+        if left == 0 {
+            return Reception { driver, tally };
+        }
+        let got = take_batch(ring, &mut driver, batch.min(left), &mut tally);
+        if got == 0 {
+            patience.wait();
+            continue;
+        }
+        patience.reset();
+        driver.publish(ring);
+        left -= got;
+    }
+    unreachable!()
+}
+
+/// Takes up to `most` frames that are done, and posts their buffers again. Returns how many.
+#[inline]
+fn take_batch(ring: &RxRing, driver: &mut RxDriverEnd, most: u32, tally: &mut Tally) -> u32
+    requires can { CanTake ring.now driver.old }
+    ensures can { CanTake ring.now driver.new }
+    ensures most { result ≤ most }
+    ensures taken { length (taken driver.new) ≡ length (taken driver.old) + result }
+{
+    for got in 0..most {
+        let Poll::Segment { mut buf, .. } = driver.poll(ring) else {
+            return got;
+        };
+        tally.add(buf.bytes());
+        buf.clear();
+        driver.post(ring, buf);
+    }
+    most
+}

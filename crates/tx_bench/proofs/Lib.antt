@@ -1,2 +1,0 @@
-pub mod Countdown
-pub mod Ends
