@@ -1,1 +1,4 @@
 pub mod Watching
+pub mod Moments
+pub mod Rule
+pub mod Viewed

@@ -1,7 +1,7 @@
 -- The knowledge of the pen and the passes of a cell.
 use Rattle.std.specs.Prelude.{List, [], ◌∷◌}
 use Rattle.atomic_table.specs.Seated.{TableId}
-use Rattle.moments.specs.Viewed.{Viewed}
+use Rattle.cells.specs.Viewed.{Viewed}
 
 -- The knowledge of a cell's pen or pass: its cell, the newest moment that it knows, and the earlier ones, newest first.
 pub record Knowing (T : Type 0) : Type 0 where

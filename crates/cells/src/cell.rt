@@ -1,11 +1,11 @@
 //! A cell, the pen that writes its numbers, and the passes that read them.
 ghost use Rattle.std.specs.Prelude.{◌≡◌, All, IfOk, IfErr};
-ghost use Rattle.moments.specs.Moments.{GoesOn, NoneFalls};
+ghost use Rattle.cells.specs.Moments.{GoesOn, NoneFalls};
 ghost use Rattle.cells.specs.Watching.{fresh, with_moment, all_of};
 ghost use Rattle.refusals.specs.declared.errors.CounterError.TheVariants.{Memory};
 
-use crate::CounterError;
-use moments::{Moment, Numbers, View};
+use crate::numbers::{Numbers, View};
+use crate::{CounterError, Moment};
 use std::alloc::Global;
 use std::marker::Model;
 use std::sync::{Arc, Wait};

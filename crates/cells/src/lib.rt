@@ -1,12 +1,12 @@
 //! A few numbers that one thread writes and others read.
-//! Depends on `moments` and `refusals`.
+//! Depends on `refusals`, `crossbeam_utils` and `atomic_table`.
 //! A read returns the lawful numbers of one moment, and no number falls from one read of a pass to the next.
 //!
 //! A [`MomentCell`] holds the numbers. One [`MomentPen`] writes them, all at one moment, and any number of
 //! [`MomentPass`]es read them, each from its own thread. A read shows the numbers of one moment that was written, or of
 //! the opening, in which all are 0. The relation of their kind ([`Moment`]) holds between them, and none is below those
-//! that this pass has read, nor below those that the pen had written when it made the pass. The crate `moments` has
-//! this rule, which each step of any thread keeps, and the words under it.
+//! that this pass has read, nor below those that the pen had written when it made the pass. `rule` has this rule, which
+//! each step of any thread keeps, and `numbers` the words under it.
 //!
 //! Making a cell allocates; no other call does. A call that reads or writes may wait, and no bound is stated: a write
 //! waits for other writes and for readers that found one in their way, and a read that finds a write in its way waits
@@ -16,7 +16,11 @@
 #![tactic(auto)]
 
 mod cell;
+mod moment;
+mod numbers;
+mod rule;
 
 pub use cell::{MomentCell, MomentPass, MomentPen};
-pub use moments::Moment;
+pub use moment::Moment;
+pub use numbers::{Numbers, View};
 pub use refusals::CounterError;

@@ -7,7 +7,7 @@ use Rattle.commands.specs.declared.replay.Pictures.{Pictures}
 use Rattle.commands.specs.declared.replay.Pictures.TheVariants.{Never}
 use Rattle.commands.specs.declared.replay.Shown.{Shown}
 use Rattle.clap.specs.Words.{App, Row, Text, subcommand_of, takes}
-use Rattle.cover_command.specs.declared.request.CoverRequest.{CoverRequest}
+use Rattle.schedule_command.specs.declared.covering.request.CoverRequest.{CoverRequest}
 use Rattle.schedule_command.specs.Lists.{shows_page}
 use Rattle.command_line.specs.CommandLine.{IsProgram}
 use Rattle.command_line.specs.OptionWords.{is_head}

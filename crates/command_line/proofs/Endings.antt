@@ -24,8 +24,8 @@ use Rattle.forward_command.specs.Streams.{Outlet, outlet}
 use Rattle.command_line.specs.Forwarding.{EndsForwarding}
 use Rattle.schedule_command.specs.Lists.{EndsSchedules}
 use Rattle.schedule_command.specs.declared.request.ScheduleRequest.{ScheduleRequest}
-use Rattle.cover_command.specs.Covers.{EndsCover}
-use Rattle.cover_command.specs.declared.request.CoverRequest.{CoverRequest}
+use Rattle.schedule_command.specs.Covers.{EndsCover}
+use Rattle.schedule_command.specs.declared.covering.request.CoverRequest.{CoverRequest}
 use Rattle.command_line.specs.CommandLine.{IsDecode, IsOnce, IsReplayOf}
 
 pub capture-ends : (given request : CaptureRequest) (bytes : List ℕ) (input : Option (List ℕ)) (status : ℕ) (old new : Option (List ℕ)) → given ≡ request

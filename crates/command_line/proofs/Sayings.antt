@@ -14,8 +14,8 @@ use Rattle.commands.specs.declared.decode.Form.{Form}
 use Rattle.commands.specs.declared.replay.QueuePlan.{QueuePlan}
 use Rattle.commands.specs.declared.request.Request.{Request}
 use Rattle.capture.specs.declared.options.ReadOptions.{ReadOptions}
-use Rattle.cover_command.specs.Covers.{EndsCover}
-use Rattle.cover_command.specs.declared.request.CoverRequest.{CoverRequest}
+use Rattle.schedule_command.specs.Covers.{EndsCover}
+use Rattle.schedule_command.specs.declared.covering.request.CoverRequest.{CoverRequest}
 use Rattle.forward_command.specs.declared.printing.Printing.{Printing}
 use Rattle.forwarder.specs.declared.config.Config.{Config}
 use Rattle.schedule_command.specs.Lists.{EndsSchedules}

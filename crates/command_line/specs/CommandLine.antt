@@ -19,7 +19,7 @@ use Rattle.command_line.specs.ScheduleWords.{schedules_app}
 use Rattle.command_line.specs.ShownWords.{HasShown, IsSayable, says_json, says_registers}
 use Rattle.commands.specs.Replay.{is_page}
 use Rattle.schedule_command.specs.declared.request.ScheduleRequest.{ScheduleRequest}
-use Rattle.cover_command.specs.declared.request.CoverRequest.{CoverRequest}
+use Rattle.schedule_command.specs.declared.covering.request.CoverRequest.{CoverRequest}
 use Rattle.command_line.specs.FileWords.{AreFiles, FileOptions, file_rule, words_of_files}
 use Rattle.command_line.specs.ReadingWords.{limit_rule, skip_rule}
 use Rattle.command_line.specs.CaptureWords.{from_capture_app, to_capture_app}

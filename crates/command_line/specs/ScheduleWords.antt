@@ -8,7 +8,7 @@ use Rattle.commands.specs.declared.replay.Pictures.TheVariants.{Never, Each, Las
 use Rattle.commands.specs.declared.replay.Pictures.{Pictures}
 use Rattle.commands.specs.declared.replay.TheConstants.{PAGE}
 use Rattle.commands.specs.declared.replay.Shown.{Shown}
-use Rattle.cover_command.specs.declared.request.CoverRequest.{CoverRequest}
+use Rattle.schedule_command.specs.declared.covering.request.CoverRequest.{CoverRequest}
 use Rattle.schedules.specs.declared.plan.SchedulePlan.{SchedulePlan}
 use Rattle.schedule_command.specs.Lists.{shows_page}
 use Rattle.schedule_command.specs.declared.request.ScheduleRequest.{ScheduleRequest}

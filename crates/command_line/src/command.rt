@@ -22,12 +22,12 @@ use crate::showing::shown_in;
 use clap::error::ErrorKind;
 use clap::{ArgMatches, Error};
 use commands::{Form, QueuePlan, Request};
-use cover_command::CoverRequest;
 use forward_command::Printing;
 use forward_command::piped::CaptureRequest;
 use forwarder::Config;
 use ring_machine::Completion;
 use schedule_command::ScheduleRequest;
+use schedule_command::covering::CoverRequest;
 use std::alloc::Global;
 
 /// The error for missing options that `clap` does not require.

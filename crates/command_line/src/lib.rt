@@ -3,7 +3,7 @@
 //! words are which request; mistaken words are never taken for one.
 //!
 //! [`asked_of`] parses the words after the program's name into a request of `commands`, a configuration of
-//! `forward_command`, a request of its captures, or a request of `schedule_command` or `cover_command`. [`files_of`]
+//! `forward_command`, a request of its captures, or a request of `schedule_command`. [`files_of`]
 //! parses the files of a forwarding. [`run`] serves the request, or prints the help or the error of `clap`, and returns
 //! the exit status.
 #![tactic(auto)]

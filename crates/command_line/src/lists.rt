@@ -3,7 +3,7 @@ ghost use Rattle.std.specs.Prelude.{◌≡◌, Some, IfSome, IsSomeAnd};
 ghost use Rattle.clap.specs.Words.{found_of, rows_of};
 ghost use Rattle.schedules.specs.declared.plan.SchedulePlan.{SchedulePlan as Plan};
 ghost use Rattle.schedule_command.specs.declared.request.ScheduleRequest.{ScheduleRequest as Lists};
-ghost use Rattle.cover_command.specs.declared.request.CoverRequest.{CoverRequest as Covering};
+ghost use Rattle.schedule_command.specs.declared.covering.request.CoverRequest.{CoverRequest as Covering};
 ghost use Rattle.command_line.specs.CommandLine.{CanBeDone, IsCover, IsSchedules};
 ghost use Rattle.command_line.specs.ScheduleWords.{HasCover, HasLists, HasQueues, HasRecommended, HasSchedules, counts};
 

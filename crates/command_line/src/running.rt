@@ -98,7 +98,7 @@ pub fn run<
             schedule_command::answer(alloc, &request, output, faults, explain)
         }
         Ok(Asked::Cover(request)) => {
-            cover_command::answer(alloc, &request, output, faults, screen, explain)
+            schedule_command::covering::answer(alloc, &request, output, faults, screen, explain)
         }
         Err(error) => tell(&error, output, faults),
     }

@@ -7,7 +7,7 @@ use Rattle.ring_machine.specs.declared.moves.Move.{Move}
 use Rattle.ring_model.specs.declared.notes.Note.{Note}
 use Rattle.refusals.specs.declared.errors.MachineError.TheVariants.{RingLength, Memory as MachineMemory}
 use Rattle.ring_model.specs.shared.Schedules.{next}
-use Rattle.note_objects.specs.NoteMembers.{note_members}
+use Rattle.pictures.specs.NoteMembers.{note_members}
 use Rattle.ring_model.specs.NoteTexts.{note_text}
 use Rattle.ring_model.specs.Worlds.{World, opening_world, after_move, after_moves, can_move, moves_happened, note_in}
 use Rattle.ring_machine.specs.Queues.{AreQueues, QueueParts, QueuesAgree, queue_move}

@@ -4,7 +4,7 @@ ghost use Rattle.std.specs.Prelude.{◌≡◌, ◌++◌, OnOk};
 ghost use Rattle.std.specs.String.{string_bytes};
 ghost use Rattle.commands.specs.Replay.{count_line, members_of, note_object, object_line, registers_line, told_line, words_line};
 
-use note_objects::NoteMembers;
+use pictures::NoteMembers;
 use ring_machine::{Move, Registers, Side};
 use ring_model::Note;
 use std::alloc::AllocError;

@@ -1,9 +1,8 @@
 //! The kinds of cells: their numbers, the relation between these, and the names of their cells.
 
-use cells::{MomentCell, MomentPass, MomentPen};
+use cells::{Moment, MomentCell, MomentPass, MomentPen};
 use crossbeam_utils::atomic::seq_cell::Words;
 use limits::{LEAST_FRAME, MOST_FRAME};
-use moments::Moment;
 
 /// The outcomes of the frames offered to a receive queue: `offered` is the sum of the other three.
 #[derive(Clone, Copy, Debug, PartialEq, Eq)]

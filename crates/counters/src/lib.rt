@@ -1,5 +1,5 @@
 //! Counters that other threads read while workers run.
-//! Depends on `cells`, `moments`, `limits` and `crossbeam_utils`.
+//! Depends on `cells`, `limits` and `crossbeam_utils`.
 //! A read returns the numbers of one moment, with the relation of their kind; the crate `cells` states it.
 //!
 //! [`StatCell`] has the frames offered to a queue, [`DriveCell`] a driver's counts of the frames that it took, and

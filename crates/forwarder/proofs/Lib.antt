@@ -3,3 +3,6 @@ pub mod Pairs
 pub mod Plans
 pub mod Walking
 mod FlowFrames
+pub mod Stopped
+pub mod Fresh
+pub mod Moving

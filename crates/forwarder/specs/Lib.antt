@@ -4,3 +4,4 @@ pub mod Lines
 pub mod Plans
 pub mod Shown
 pub mod Stopped
+pub mod Watching

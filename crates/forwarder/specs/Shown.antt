@@ -4,7 +4,7 @@ use Rattle.counters.specs.declared.flows.FlowCells.{FlowCells}
 use Rattle.counters.specs.declared.flows.FlowPens.{FlowPens}
 use Rattle.flows.specs.Counting.{driven_in, offered_in}
 use Rattle.flows.specs.declared.report.FlowReport.{FlowReport}
-use Rattle.watching.specs.Watching.{ArePensOf, driven_shown, offered_shown}
+use Rattle.forwarder.specs.Watching.{ArePensOf, driven_shown, offered_shown}
 
 -- Each pen is that of the cell at its place. The numbers that it last wrote are those of the report at that place.
 pub record ShowReports (cells : List FlowCells) (pens : List FlowPens) (reports : List FlowReport) : Type 0 where

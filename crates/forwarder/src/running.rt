@@ -16,12 +16,13 @@ ghost use Rattle.forwarder.specs.Plans.{plan};
 ghost use Rattle.forwarder.specs.Shown.{ShowReports};
 ghost use Rattle.forwarder.specs.Stopped.{IsStopped};
 ghost use Rattle.teams.specs.Refusals.{Halted};
-ghost use Rattle.watching.specs.Watching.{ArePensOf, driven_shown, offered_shown};
+ghost use Rattle.forwarder.specs.Watching.{ArePensOf, driven_shown, offered_shown};
 
 use crate::concluding::conclude_all;
 use crate::config::Config;
 use crate::index::Index;
 use crate::lines::{Line, LineEnds};
+use crate::serving::{Shown, serve_watched};
 use crate::sides::{Sides, make_sides};
 use crate::stopping::{Stopped, stop_all};
 use counters::{FlowCells, FlowPens};
@@ -31,7 +32,6 @@ use pool::{Pool, PoolPass};
 use std::alloc::Global;
 use std::sync::Wait;
 use std::thread::Threads;
-use watching::{Shown, serve_watched};
 use wire_script::Script;
 
 /// What to forward, by which configuration and gate.

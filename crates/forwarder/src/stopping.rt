@@ -5,9 +5,9 @@ ghost use Rattle.pool.specs.Owned.{IsOf};
 ghost use Rattle.forwarder.specs.Plans.{AreOfLine, AreOfLines};
 ghost use Rattle.forwarder.specs.Stopped.{IsStopped};
 
+use crate::abort::close_flow;
 use crate::lines::Line;
 use flows::{ControllerDone, ControllerFlow, DriverFlow, DriverParts};
-use halting::close_flow;
 use pool::{Pool, PoolPass};
 use std::sync::Wait;
 

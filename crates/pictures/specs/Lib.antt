@@ -1,2 +1,3 @@
 pub mod Pictures
 pub mod States
+pub mod NoteMembers

@@ -1,3 +1,4 @@
 mod Dealt
 pub mod Lists
 mod Together
+mod Keeps

@@ -2,3 +2,5 @@ pub mod Refusals
 pub mod Endings
 pub mod Hands
 pub mod Dealing
+pub mod Passes
+pub mod Rule

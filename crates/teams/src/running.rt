@@ -1,17 +1,17 @@
 //! Running both sides' workers at once.
 ghost use Rattle.std.specs.Prelude.{◌≡◌, ◌≤◌, [], None, IfOk, IfSome, vec_capacity};
-ghost use Rattle.stop_word.specs.Passes.{first_pass};
+ghost use Rattle.teams.specs.Passes.{first_pass};
 ghost use Rattle.teams.specs.Hands.{hand_keys, AllOver};
 ghost use Rattle.teams.specs.Refusals.{Halted};
 
 use crate::standing::Standing;
 use crate::team::{Begun, join_each, start};
+use crate::word::{StopPass, StopWord};
 use forwarding::{Flow, ForwardError, Gate};
 use std::alloc::{AllocError, Global};
 use std::sync::Wait;
 use std::thread;
 use std::thread::{Scope, Threads};
-use stop_word::{StopPass, StopWord};
 
 /// The flows of both sides, hand by hand.
 #[derive(Drop)]

@@ -5,10 +5,10 @@ ghost use Rattle.teams.specs.declared.serving.Round.TheVariants.{Busy, Idle, End
 ghost use Rattle.teams.specs.Endings.{IsSo};
 
 use crate::standing::Standing;
+use crate::word::StopWord;
 use forwarding::{Flow, Gate, Progress};
 use std::sync::Wait;
 use std::{hint, thread};
-use stop_word::StopWord;
 
 /// The number of rounds without work for which a worker spins before it yields. On a processor of its own, the other
 /// side has mostly progressed by then.

@@ -1,14 +1,14 @@
 //! The state of some work, with a pass of the stop word.
 ghost use Rattle.std.specs.Prelude.{◌≡◌, ◌⊎◌, ◌<◌, ◌+◌, ◌-◌, true, false, None, Some};
-ghost use Rattle.stop_word.specs.Rule.{whole_share};
+ghost use Rattle.teams.specs.Rule.{whole_share};
 ghost use Rattle.teams.specs.declared.ending.Ending.TheVariants.{Done, Refused, Stopped};
 ghost use Rattle.teams.specs.Endings.{stood, worse};
 
 use crate::ending::Ending;
+use crate::word::{StopPass, StopWord};
 use forwarding::ForwardError;
 use std::marker::Model;
 use std::sync::Wait;
-use stop_word::{StopPass, StopWord};
 
 /// The state of some work: `Done` as long as no refusal ended it. Its pass was the first to set the stop word exactly
 /// if the work was refused, and has seen the word set if the work was stopped.

@@ -6,11 +6,11 @@ ghost use Rattle.teams.specs.Endings.{IsEnded, IsSo};
 
 use crate::serving::{Served, serve};
 use crate::standing::Standing;
+use crate::word::StopWord;
 use forwarding::{Flow, ForwardError, Gate};
 use std::snapshot::Snapshot;
 use std::sync::Wait;
 use std::thread::{Promise, PromisedHandle, Scope, Threads};
-use stop_word::StopWord;
 
 /// A worker's promise: its flows come back, and its ending is true of them.
 #[derive(Drop)]

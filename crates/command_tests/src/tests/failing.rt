@@ -1,23 +1,22 @@
 //! Runs on failing streams.
 
-use crate::tests::runs::{Host, refusal_of, text_of};
-use crate::tests::streams::{Broken, Narrow, Unflushed};
+use crate::tests::runs::{Host, run_into};
+use crate::tests::streams::{Input, Output};
 use crate::tests::wanted::{holds, same};
 use std::alloc::Global;
-use std::io::{Read, Write};
 
-/// A run with these streams is refused with this line.
-pub fn is_refused<R: Host, I: Read, W: Write>(
+/// A run with these streams is refused with this line. Returns what it wrote to the output.
+pub fn is_refused<R: Host>(
     rt: &R,
     alloc: Global,
     words: &[&str],
-    input: &mut I,
-    output: &mut W,
+    (input, output): (Input<'_>, Output),
     line: &str,
-) {
-    let (status, faults) = refusal_of(rt, alloc, words, input, output).expect(rt, "a run");
-    let faults = text_of(faults.as_slice());
-    same(rt, (words, faults, status), (words, line, 1));
+) -> Vec<u8> {
+    let outputs = (output, Output::new(alloc));
+    let told = run_into(rt, alloc, words, input, outputs).expect(rt, "a run");
+    same(rt, (words, told.faults(), told.status), (words, line, 1));
+    told.output
 }
 
 const NO_OUTPUT: &str = "refused 84 output\n";
@@ -26,13 +25,19 @@ const NO_OUTPUT: &str = "refused 84 output\n";
 fn has_beginning<R: Host>(
     rt: &R,
     alloc: Global,
-    (words, mut input): (&[&str], &[u8]),
+    (words, input): (&[&str], &[u8]),
     whole: &[u8],
     room: usize,
 ) {
-    let mut output = Narrow::new(alloc, room);
-    is_refused(rt, alloc, words, &mut input, &mut output, NO_OUTPUT);
-    same(rt, Some(output.taken.as_slice()), whole.get(..room));
+    let streams = (Input::of(input), Output::narrow(alloc, room));
+    let taken = is_refused(rt, alloc, words, streams, NO_OUTPUT);
+    same(rt, Some(taken.as_slice()), whole.get(..room));
+}
+
+/// The run is refused with an output that fails to flush.
+pub fn is_stuck<R: Host>(rt: &R, alloc: Global, words: &[&str], input: &[u8]) {
+    let streams = (Input::of(input), Output::stuck(alloc));
+    is_refused(rt, alloc, words, streams, NO_OUTPUT);
 }
 
 /// The run is refused with an output of each of these rooms, with room for all but one byte, and with one that fails to
@@ -44,26 +49,24 @@ pub fn each_beginning<R: Host>(
     whole: &[u8],
     rooms: &[usize],
 ) {
-    let mut input = input.as_bytes();
+    let input = input.as_bytes();
     for room in rooms {
         has_beginning(rt, alloc, (words, input), whole, *room);
     }
     let last = whole.len().saturating_sub(1);
     has_beginning(rt, alloc, (words, input), whole, last);
-    is_refused(rt, alloc, words, &mut input, &mut Unflushed, NO_OUTPUT)
+    is_stuck(rt, alloc, words, input)
 }
 
 /// A run on an input that yields these bytes and then fails is refused, and writes nothing.
-fn is_cut<R: Host>(rt: &R, alloc: Global, words: &[&str], left: &'static [u8]) {
-    let mut output = Vec::new(alloc);
-    let mut input = Broken { left };
-    let line = "refused 82 input\n";
-    is_refused(rt, alloc, words, &mut input, &mut output, line);
-    holds(rt, output.is_empty());
+fn is_cut<R: Host>(rt: &R, alloc: Global, words: &[&str], left: &[u8]) {
+    let streams = (Input::broken(left), Output::new(alloc));
+    let taken = is_refused(rt, alloc, words, streams, "refused 82 input\n");
+    holds(rt, taken.is_empty());
 }
 
 /// The same for each of these words and inputs.
-pub fn each_cut<R: Host>(rt: &R, alloc: Global, rows: &[(&[&str], &'static [u8])]) {
+pub fn each_cut<R: Host>(rt: &R, alloc: Global, rows: &[(&[&str], &[u8])]) {
     for (words, left) in rows {
         is_cut(rt, alloc, words, left);
     }

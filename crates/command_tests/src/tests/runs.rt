@@ -1,9 +1,8 @@
 //! Runs of the program, and their results.
 
-use crate::tests::streams::Screen;
+use crate::tests::streams::{Input, Output, Screen};
 use command_line::run;
 use std::alloc::{AllocError, Global};
-use std::io::{Read, Write};
 use std::process::Abort;
 use std::rt::Files;
 use std::str;
@@ -45,92 +44,88 @@ impl Told {
     }
 }
 
-/// The status of a run on these words and streams, with an input that may be a terminal.
-fn status_from<R: Host, I: Read, W: Write, E: Write>(
+/// The result of a run on these words, this input, which may be a terminal, these outputs and this screen.
+fn run_from<R: Host>(
     rt: &R,
     alloc: Global,
     words: &[&str],
-    (input, is_terminal): (&mut I, bool),
-    output: &mut W,
-    faults: &mut E,
-    screen: &mut Screen,
-) -> Result<u8, AllocError> {
+    (mut input, is_terminal): (Input<'_>, bool),
+    (mut output, mut faults): (Output, Output),
+    mut screen: Screen,
+) -> Result<Told, AllocError> {
     let mut given = Vec::new(alloc);
     for word in words {
         given.push(String::from_str(alloc, word)?)?;
     }
     let words = given.as_slice();
-    Ok(run(rt, alloc, words, input, is_terminal, output, faults, screen))
-}
-
-/// The same for an input that is no terminal.
-pub fn status_of<R: Host, I: Read, W: Write, E: Write>(
-    rt: &R,
-    alloc: Global,
-    words: &[&str],
-    input: &mut I,
-    output: &mut W,
-    faults: &mut E,
-    screen: &mut Screen,
-) -> Result<u8, AllocError> {
-    status_from(rt, alloc, words, (input, false), output, faults, screen)
-}
-
-/// The result of a run on these words, this input and this screen.
-fn outcome_from<R: Host, I: Read>(
-    rt: &R,
-    alloc: Global,
-    words: &[&str],
-    input: (&mut I, bool),
-    mut screen: Screen,
-) -> Result<Told, AllocError> {
-    let (mut output, mut faults) = (Vec::new(alloc), Vec::new(alloc));
-    let status = status_from(
+    let status = run(
         rt,
         alloc,
         words,
-        input,
+        &mut input,
+        is_terminal,
         &mut output,
         &mut faults,
         &mut screen,
-    )?;
+    );
     Ok(Told {
         status,
-        output,
-        faults,
+        output: output.taken,
+        faults: faults.taken,
         shown: screen.shown,
     })
 }
 
-/// The same for an input that is no terminal.
-pub fn outcome_on<R: Host, I: Read>(
+/// The result of a run on these words, this input and these outputs, without a terminal.
+pub fn run_into<R: Host>(
     rt: &R,
     alloc: Global,
     words: &[&str],
-    input: &mut I,
+    input: Input<'_>,
+    outputs: (Output, Output),
+) -> Result<Told, AllocError> {
+    let screen = Screen::new(alloc, false);
+    run_from(rt, alloc, words, (input, false), outputs, screen)
+}
+
+/// The result of a run on these words, this input, which is no terminal, and this screen.
+pub fn outcome_on<R: Host>(
+    rt: &R,
+    alloc: Global,
+    words: &[&str],
+    input: &[u8],
     screen: Screen,
 ) -> Result<Told, AllocError> {
-    outcome_from(rt, alloc, words, (input, false), screen)
+    let outputs = (Output::new(alloc), Output::new(alloc));
+    run_from(rt, alloc, words, (Input::of(input), false), outputs, screen)
 }
 
 /// The result of a run on these words and this input, which is a terminal. The screen is none.
-pub fn typed_by<R: Host, I: Read>(
+pub fn typed_by<R: Host>(
     rt: &R,
     alloc: Global,
     words: &[&str],
-    input: &mut I,
+    input: Input<'_>,
 ) -> Result<Told, AllocError> {
-    outcome_from(rt, alloc, words, (input, true), Screen::new(alloc, false))
+    let outputs = (Output::new(alloc), Output::new(alloc));
+    let screen = Screen::new(alloc, false);
+    run_from(rt, alloc, words, (input, true), outputs, screen)
 }
 
-/// The same without a terminal.
-pub fn told_by<R: Host, I: Read>(
+/// The result of a run on these words and this input, without a terminal.
+pub fn told_by<R: Host>(
     rt: &R,
     alloc: Global,
     words: &[&str],
-    input: &mut I,
+    input: Input<'_>,
 ) -> Result<Told, AllocError> {
-    outcome_on(rt, alloc, words, input, Screen::new(alloc, false))
+    run_into(
+        rt,
+        alloc,
+        words,
+        input,
+        (Output::new(alloc), Output::new(alloc)),
+    )
 }
 
 /// The same for an input with these bytes.
@@ -138,23 +133,9 @@ pub fn outcome_of<R: Host>(
     rt: &R,
     alloc: Global,
     words: &[&str],
-    mut input: &[u8],
+    input: &[u8],
 ) -> Result<Told, AllocError> {
-    told_by(rt, alloc, words, &mut input)
-}
-
-/// The status and the faults of a run on these words, this input and this output, without a terminal.
-pub fn refusal_of<R: Host, I: Read, W: Write>(
-    rt: &R,
-    alloc: Global,
-    words: &[&str],
-    input: &mut I,
-    output: &mut W,
-) -> Result<(u8, Vec<u8>), AllocError> {
-    let mut faults = Vec::new(alloc);
-    let mut screen = Screen::new(alloc, false);
-    let status = status_of(rt, alloc, words, input, output, &mut faults, &mut screen)?;
-    Ok((status, faults))
+    told_by(rt, alloc, words, Input::of(input))
 }
 
 /// Whether a page consists of lines, begins with `begins`, and contains `text`.

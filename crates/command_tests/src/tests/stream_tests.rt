@@ -1,8 +1,8 @@
 //! Failing streams and allocations.
 
-use crate::tests::failing::{each_cut, is_refused};
-use crate::tests::runs::{Host, status_of};
-use crate::tests::streams::{Narrow, Screen, Unflushed};
+use crate::tests::failing::{each_cut, is_refused, is_stuck};
+use crate::tests::runs::{Host, run_into};
+use crate::tests::streams::{Input, Output};
 use crate::tests::wanted::{holds, same};
 use commands::{NOTES, QueuePlan, Request, perform};
 use ring_machine::Completion;
@@ -39,16 +39,9 @@ const NO_OUTPUT: &str = "refused 84 output\n";
 
 /// With room for `room` bytes, the output is refused, and full.
 fn is_full<R: Host>(rt: &R, alloc: Global, words: &[&str], room: usize) {
-    let mut output = Narrow::new(alloc, room);
-    is_refused(
-        rt,
-        alloc,
-        words,
-        &mut MOVES.as_bytes(),
-        &mut output,
-        NO_OUTPUT,
-    );
-    same(rt, (words, output.taken.len()), (words, room));
+    let streams = (Input::of(MOVES.as_bytes()), Output::narrow(alloc, room));
+    let taken = is_refused(rt, alloc, words, streams, NO_OUTPUT);
+    same(rt, (words, taken.len()), (words, room));
 }
 
 /// An output that takes too little, or fails to flush, is refused.
@@ -56,14 +49,7 @@ fn each_output_is_refused<R: Host>(rt: &R, alloc: Global, words: &[&str]) {
     for room in [0, 1, 27, 28] {
         is_full(rt, alloc, words, room);
     }
-    is_refused(
-        rt,
-        alloc,
-        words,
-        &mut MOVES.as_bytes(),
-        &mut Unflushed,
-        NO_OUTPUT,
-    )
+    is_stuck(rt, alloc, words, MOVES.as_bytes())
 }
 
 #[test]
@@ -75,19 +61,9 @@ fn an_output_that_fails_is_refused(rt: HostRuntime) {
 
 /// With room for `room` bytes of faults, the status is this.
 fn has_status<R: Host>(rt: &R, alloc: Global, words: &[&str], room: usize, status: u8) {
-    let (mut output, mut faults) = (Vec::new(alloc), Narrow::new(alloc, room));
-    let mut screen = Screen::new(alloc, false);
-    let told = status_of(
-        rt,
-        alloc,
-        words,
-        &mut "".as_bytes(),
-        &mut output,
-        &mut faults,
-        &mut screen,
-    )
-    .expect(rt, "a run");
-    same(rt, (words, room, told), (words, room, status));
+    let outputs = (Output::new(alloc), Output::narrow(alloc, room));
+    let told = run_into(rt, alloc, words, Input::of(b""), outputs).expect(rt, "a run");
+    same(rt, (words, room, told.status), (words, room, status));
 }
 
 #[test]
@@ -116,8 +92,8 @@ fn want_of_memory(rt: HostRuntime) {
         lists: false,
         shown: NOTES,
     };
-    let mut input = "r0 A1 5\nt0 B2\n".as_bytes();
-    let mut output = Narrow::new(rt.alloc(), 100);
+    let mut input = Input::of(b"r0 A1 5\nt0 B2\n");
+    let mut output = Output::narrow(rt.alloc(), 100);
     let mut why = String::new(rt.alloc());
     match perform(
         &rt,

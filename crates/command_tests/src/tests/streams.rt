@@ -1,44 +1,63 @@
-//! Failing inputs and outputs, and a screen.
+//! Inputs and outputs that may fail, and a screen.
+//!
+//! All inputs have one type, and so have all outputs: the program is compiled once for each pair of types.
 
 use std::alloc::Global;
 use std::io;
 use std::io::{ErrorKind, IsTerminal, Read, Write};
 
-/// An input that yields these bytes, and then fails.
-#[derive(Drop)]
-pub struct Broken {
-    pub left: &'static [u8],
-}
-
-impl Read for Broken {
-    fn read(&mut self, buf: &mut [u8]) -> io::Result<usize> {
-        let count = buf.len().min(self.left.len());
-        if count == 0 && !buf.is_empty() {
-            return Err(io::Error::from(ErrorKind::BrokenPipe));
-        }
-        buf[..count].copy_from_slice(&self.left[..count]);
-        self.left = &self.left[count..];
-        Ok(count)
-    }
-}
-
 /// Number of bytes that a stream in pieces reads or writes at once.
 pub const PIECE: usize = 100;
 
-/// An input that yields its bytes in pieces, and fails after a given number of them.
+/// An input that yields its bytes, and then ends or fails.
 #[derive(Drop)]
-pub struct Halting<'a> {
-    pub left: &'a [u8],
-    pub pieces: usize,
+pub struct Input<'a> {
+    left: &'a [u8],
+    /// The most bytes that it yields at once.
+    most: usize,
+    /// After this many reads it fails.
+    reads: usize,
+    /// Whether it fails after its last byte.
+    fails: bool,
 }
 
-impl<'a> Read for Halting<'a> {
+impl<'a> Input<'a> {
+    /// An input of these bytes.
+    pub fn of(left: &'a [u8]) -> Input<'a> {
+        Input {
+            left,
+            most: usize::MAX,
+            reads: usize::MAX,
+            fails: false,
+        }
+    }
+
+    /// An input that yields these bytes, and then fails.
+    pub fn broken(left: &'a [u8]) -> Input<'a> {
+        Input {
+            fails: true,
+            ..Input::of(left)
+        }
+    }
+
+    /// An input that yields its bytes in pieces, and fails after this many of them.
+    pub fn of_pieces(left: &'a [u8], pieces: usize) -> Input<'a> {
+        Input {
+            most: PIECE,
+            reads: pieces,
+            ..Input::of(left)
+        }
+    }
+}
+
+impl<'a> Read for Input<'a> {
     fn read(&mut self, buf: &mut [u8]) -> io::Result<usize> {
-        if self.pieces == 0 {
+        let count = buf.len().min(self.left.len()).min(self.most);
+        let is_over = self.fails && count == 0 && !buf.is_empty();
+        if self.reads == 0 || is_over {
             return Err(io::Error::from(ErrorKind::BrokenPipe));
         }
-        self.pieces -= 1;
-        let count = buf.len().min(self.left.len()).min(PIECE);
+        self.reads -= 1;
         buf[..count].copy_from_slice(&self.left[..count]);
         self.left = &self.left[count..];
         Ok(count)
@@ -47,34 +66,49 @@ impl<'a> Read for Halting<'a> {
 
 /// An output that takes a given number of bytes, and then fails.
 #[derive(Drop)]
-pub struct Narrow {
+pub struct Output {
     room: usize,
     /// The most bytes that it takes at once.
     most: usize,
+    /// Whether it fails to flush.
+    is_stuck: bool,
     pub taken: Vec<u8>,
 }
 
-impl Narrow {
+impl Output {
+    /// An output that takes all bytes.
+    pub fn new(alloc: Global) -> Output {
+        Output::narrow(alloc, usize::MAX)
+    }
+
     /// An output of `room` bytes, which it takes at once.
-    pub fn new(alloc: Global, room: usize) -> Narrow {
-        Narrow {
+    pub fn narrow(alloc: Global, room: usize) -> Output {
+        Output {
             room,
             most: room,
+            is_stuck: false,
             taken: Vec::new(alloc),
         }
     }
 
     /// An output of `pieces` pieces, which it takes one at a time.
-    pub fn of_pieces(alloc: Global, pieces: usize) -> Narrow {
-        Narrow {
-            room: pieces.saturating_mul(PIECE),
+    pub fn of_pieces(alloc: Global, pieces: usize) -> Output {
+        Output {
             most: PIECE,
-            taken: Vec::new(alloc),
+            ..Output::narrow(alloc, pieces.saturating_mul(PIECE))
+        }
+    }
+
+    /// An output that takes all bytes, and fails to flush.
+    pub fn stuck(alloc: Global) -> Output {
+        Output {
+            is_stuck: true,
+            ..Output::new(alloc)
         }
     }
 }
 
-impl Write for Narrow {
+impl Write for Output {
     fn write(&mut self, buf: &[u8]) -> io::Result<usize> {
         let count = self.room.min(buf.len()).min(self.most);
         if count == 0 && !buf.is_empty() {
@@ -86,21 +120,10 @@ impl Write for Narrow {
     }
 
     fn flush(&mut self) -> io::Result<()> {
+        if self.is_stuck {
+            return Err(io::Error::from(ErrorKind::BrokenPipe));
+        }
         Ok(())
-    }
-}
-
-/// An output that takes all bytes, and fails to flush.
-#[derive(Drop)]
-pub struct Unflushed;
-
-impl Write for Unflushed {
-    fn write(&mut self, buf: &[u8]) -> io::Result<usize> {
-        Ok(buf.len())
-    }
-
-    fn flush(&mut self) -> io::Result<()> {
-        Err(io::Error::from(ErrorKind::BrokenPipe))
     }
 }
 

@@ -1,11 +1,10 @@
 //! Checks runs of the program on words and an input.
 
-use crate::tests::runs::{Host, Told, is_page, text_of, told_by};
-use crate::tests::streams::Broken;
+use crate::tests::runs::{Host, Told, is_page, outcome_of, text_of, told_by};
+use crate::tests::streams::Input;
 use crate::tests::wanted::same;
 use commands::{REFUSED, Refusal, refuse};
 use std::alloc::{AllocError, Global};
-use std::io::Read;
 use std::process::Abort;
 
 /// A run and its expected output, to the byte.
@@ -19,14 +18,14 @@ pub struct Row {
 
 /// A run on these words and this input has this output and these faults, and shows nothing. Its status is 1 if there
 /// are faults.
-pub fn comes_to<R: Host, I: Read>(
+pub fn comes_to<R: Host>(
     rt: &R,
     alloc: Global,
     words: &[&str],
-    input: &mut I,
+    input: &[u8],
     (output, faults): (&[u8], &str),
 ) {
-    let told = told_by(rt, alloc, words, input).expect(rt, "a run");
+    let told = outcome_of(rt, alloc, words, input).expect(rt, "a run");
     is_told(rt, words, &told, (output, faults, ""));
 }
 
@@ -58,7 +57,7 @@ pub fn comes_to_text<R: Host>(
         rt,
         alloc,
         words,
-        &mut input.as_bytes(),
+        input.as_bytes(),
         (output.as_bytes(), faults),
     )
 }
@@ -82,7 +81,7 @@ pub enum Page {
 /// A run on these words prints this page with this text, and nothing else. It does not read its input, which is neither
 /// a move nor a valid script, and fails.
 fn has_page<R: Host>(rt: &R, alloc: Global, page: Page, words: &[&str], text: &str) {
-    let told = told_by(rt, alloc, words, &mut Broken { left: b"2 0 00\n" }).expect(rt, "a run");
+    let told = told_by(rt, alloc, words, Input::broken(b"2 0 00\n")).expect(rt, "a run");
     let (status, begins, told_text, other) = match page {
         Page::Help => (0, "", told.text(), told.faults()),
         Page::Mistake => (2, "error: ", told.faults(), told.text()),

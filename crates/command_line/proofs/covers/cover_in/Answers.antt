@@ -2,7 +2,7 @@
 use Rattle.std.proofs.Common.{◌≡◌, ap, refl, Bool, Option, Some, None, unwrap_or}
 use Rattle.commands.specs.declared.replay.Shown.{Shown}
 use Rattle.ring_model.specs.declared.states.Completion.{Completion}
-use Rattle.cover_command.specs.declared.request.CoverRequest.{CoverRequest}
+use Rattle.schedule_command.specs.declared.covering.request.CoverRequest.{CoverRequest}
 use Rattle.command_line.proofs.covers.cover_in.Goals as goal
 
 -- a request, from its parts

@@ -2,7 +2,7 @@
 
 use crate::tests::failing::{each_beginning, each_cut};
 use crate::tests::forward::captured::{AT_0, FIVES, HEADER, joined};
-use crate::tests::streams::{Narrow, Screen};
+use crate::tests::streams::{Input, Output, Screen};
 use crate::tests::wanted::{holds, same};
 use capture::ReadOptions;
 use forward_command::piped::{CaptureRequest, perform};
@@ -47,13 +47,13 @@ fn an_input_that_fails_in_mid_stream_is_refused(rt: HostRuntime) {
 
 /// The output of `to-capture`, or nothing if an allocation fails.
 fn capture_written<A: Abort>(rt: &A, alloc: Global) -> Vec<u8> {
-    let mut output = Narrow::new(alloc, 400);
+    let mut output = Output::narrow(alloc, 400);
     let request = CaptureRequest::ToCapture { port: 1 };
     let mut why = String::new(alloc);
     match perform(
         alloc,
         request,
-        &mut SCRIPT.as_bytes(),
+        &mut Input::of(SCRIPT.as_bytes()),
         &mut output,
         &mut Screen::new(alloc, false),
         &mut why,
@@ -68,8 +68,8 @@ fn capture_written<A: Abort>(rt: &A, alloc: Global) -> Vec<u8> {
 }
 
 /// `from-capture` converts that capture back to the line, or writes nothing.
-fn line_is_written<A: Abort>(rt: &A, alloc: Global, mut capture: &[u8]) {
-    let mut output = Narrow::new(alloc, 400);
+fn line_is_written<A: Abort>(rt: &A, alloc: Global, capture: &[u8]) {
+    let mut output = Output::narrow(alloc, 400);
     let reading = ReadOptions::default();
     let request = CaptureRequest::FromCapture {
         port: 1,
@@ -81,7 +81,7 @@ fn line_is_written<A: Abort>(rt: &A, alloc: Global, mut capture: &[u8]) {
     match perform(
         alloc,
         request,
-        &mut capture,
+        &mut Input::of(capture),
         &mut output,
         &mut screen,
         &mut why,

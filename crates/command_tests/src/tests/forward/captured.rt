@@ -61,7 +61,7 @@ pub fn brings<R: Host>(
     let input = joined(alloc, input).expect(rt, "memory");
     let output = joined(alloc, output).expect(rt, "memory");
     let wanted = (output.as_slice(), faults);
-    comes_to(rt, alloc, words, &mut input.as_slice(), wanted)
+    comes_to(rt, alloc, words, input.as_slice(), wanted)
 }
 
 /// Each run writes the output of its row, and no faults.

@@ -4,7 +4,7 @@ use crate::tests::forward::captured::{
     AT_0, AT_1, AT_2, BYTES, Content, FIVES, HEADER, LETTERS, RAW, SHORT, joined,
 };
 use crate::tests::runs::{Host, outcome_of, typed_by};
-use crate::tests::streams::Broken;
+use crate::tests::streams::Input;
 use crate::tests::told::{Page, comes_to, each_has_page, is_told};
 use crate::tests::wanted::{holds, same};
 use std::alloc::Global;
@@ -42,7 +42,7 @@ fn each_comes_to<R: Host + AllocGlobal>(rt: &R, alloc: Global, rows: &[Row]) {
     for row in rows {
         put(rt, alloc, row.files);
         let wanted = (row.output.as_bytes(), row.faults, "");
-        let told = typed_by(rt, alloc, row.words, &mut Broken { left: b"" }).expect(rt, "a run");
+        let told = typed_by(rt, alloc, row.words, Input::broken(b"")).expect(rt, "a run");
         is_told(rt, row.words, &told, wanted);
         have(rt, alloc, row.kept);
     }
@@ -281,8 +281,8 @@ fn is_of_lines<R: Host + AllocGlobal>(rt: &R, alloc: Global, lines: &[u8], port:
 #[test]
 fn what_leaves_a_port_is_the_capture_of_its_lines(rt: HostRuntime) {
     let plain = outcome_of(&rt, rt.alloc(), PLAIN, SCRIPT).expect(&rt, "a run");
-    let (lines, mut script) = (plain.output.as_slice(), SCRIPT);
-    comes_to(&rt, rt.alloc(), WIRED, &mut script, (lines, ""));
+    let lines = plain.output.as_slice();
+    comes_to(&rt, rt.alloc(), WIRED, SCRIPT, (lines, ""));
     is_of_lines(&rt, rt.alloc(), lines, "0", "lines_0.pcap");
     is_of_lines(&rt, rt.alloc(), lines, "1", "lines_1.pcap")
 }

@@ -4,8 +4,8 @@ use crate::tests::forward::captured::{
     AT_0, AT_1, AT_2, BYTES, Content, FIVES, HEADER, LETTERS, SHORT, joined,
 };
 use crate::tests::forward::file_tests::put;
-use crate::tests::runs::{Host, Told, told_by, typed_by};
-use crate::tests::streams::Broken;
+use crate::tests::runs::{Host, Told, outcome_of, told_by, typed_by};
+use crate::tests::streams::Input;
 use crate::tests::told::is_told;
 use std::alloc::Global;
 
@@ -30,7 +30,7 @@ struct Row {
 
 fn told_of<R: Host>(rt: &R, alloc: Global, row: &Row) -> Told {
     let input = joined(alloc, row.input).expect(rt, "memory");
-    told_by(rt, alloc, row.words, &mut input.as_slice()).expect(rt, "a run")
+    outcome_of(rt, alloc, row.words, input.as_slice()).expect(rt, "a run")
 }
 
 /// Each run comes to its row.
@@ -185,8 +185,8 @@ fn after_captures_a_terminal_is_not_read_and_another_input_is(rt: HostRuntime) {
     let alloc = rt.alloc();
     let files: &[(&str, Content)] = &[("typed_good.pcap", &[HEADER, AT_0, BYTES, AT_1, LETTERS])];
     put(&rt, alloc, files);
-    let typed = typed_by(&rt, alloc, GOOD, &mut Broken { left: b"" }).expect(&rt, "a run");
+    let typed = typed_by(&rt, alloc, GOOD, Input::broken(b"")).expect(&rt, "a run");
     is_told(&rt, GOOD, &typed, (COUNTS.as_bytes(), "", ""));
-    let failed = told_by(&rt, alloc, GOOD, &mut Broken { left: b"" }).expect(&rt, "a run");
+    let failed = told_by(&rt, alloc, GOOD, Input::broken(b"")).expect(&rt, "a run");
     is_told(&rt, GOOD, &failed, (b"", "refused 82 input\n", ""));
 }

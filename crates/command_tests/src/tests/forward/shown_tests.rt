@@ -35,13 +35,13 @@ fn run_shown<R: Host>(
     rt: &R,
     alloc: Global,
     options: &[&str],
-    mut script: &[u8],
+    script: &[u8],
     is_terminal: bool,
 ) -> Told {
     let mut words = forty_words(alloc, options).expect(rt, "memory");
     words.push("--progress").expect(rt, "memory");
     let screen = Screen::new(alloc, is_terminal);
-    outcome_on(rt, alloc, words.as_slice(), &mut script, screen).expect(rt, "a run")
+    outcome_on(rt, alloc, words.as_slice(), script, screen).expect(rt, "a run")
 }
 
 /// The same without `--progress`.

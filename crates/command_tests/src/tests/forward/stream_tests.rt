@@ -3,7 +3,7 @@
 use crate::tests::failing::{each_beginning, each_cut, is_refused};
 use crate::tests::forward::forty::{FORTY_WORDS, forty, forty_forwarded};
 use crate::tests::runs::Host;
-use crate::tests::streams::{Halting, Narrow, PIECE, Screen};
+use crate::tests::streams::{Input, Output, PIECE, Screen};
 use crate::tests::wanted::{holds, same};
 use forward_command::{Printing, perform};
 use forwarder::Config;
@@ -37,12 +37,13 @@ fn an_input_that_fails_in_mid_stream_is_refused(rt: HostRuntime) {
 
 /// When `pieces` pieces of the output of the 40 frames can be written, these are written.
 fn stops_writing<R: Host>(rt: &R, alloc: Global, (script, printed): (&str, &str), pieces: usize) {
-    let mut input = script.as_bytes();
-    let mut output = Narrow::of_pieces(alloc, pieces);
-    let line = "refused 84 output\n";
-    is_refused(rt, alloc, FORTY_WORDS, &mut input, &mut output, line);
+    let streams = (
+        Input::of(script.as_bytes()),
+        Output::of_pieces(alloc, pieces),
+    );
+    let taken = is_refused(rt, alloc, FORTY_WORDS, streams, "refused 84 output\n");
     let beginning = printed.as_bytes().get(..pieces.saturating_mul(PIECE));
-    same(rt, Some(output.taken.as_slice()), beginning);
+    same(rt, Some(taken.as_slice()), beginning);
 }
 
 #[test]
@@ -57,14 +58,12 @@ fn each_write_that_fails_leaves_a_beginning(rt: HostRuntime) {
 
 /// When only `pieces` pieces of the script of the 40 frames can be read, nothing is written.
 fn stops_reading<R: Host>(rt: &R, alloc: Global, script: &str, pieces: usize) {
-    let mut input = Halting {
-        left: script.as_bytes(),
-        pieces,
-    };
-    let mut output = Vec::new(alloc);
-    let line = "refused 82 input\n";
-    is_refused(rt, alloc, FORTY_WORDS, &mut input, &mut output, line);
-    holds(rt, output.is_empty());
+    let streams = (
+        Input::of_pieces(script.as_bytes(), pieces),
+        Output::new(alloc),
+    );
+    let taken = is_refused(rt, alloc, FORTY_WORDS, streams, "refused 82 input\n");
+    holds(rt, taken.is_empty());
 }
 
 #[test]
@@ -78,8 +77,8 @@ fn each_read_that_fails_is_refused(rt: HostRuntime) {
 // This also passes when any one allocation fails, as with `rt try --test --fail-alloc N`.
 #[test]
 fn want_of_memory(rt: HostRuntime) {
-    let mut input = SCRIPT.as_bytes();
-    let mut output = Narrow::new(rt.alloc(), 400);
+    let mut input = Input::of(SCRIPT.as_bytes());
+    let mut output = Output::narrow(rt.alloc(), 400);
     let mut screen = Screen::new(rt.alloc(), false);
     match perform(
         &rt,

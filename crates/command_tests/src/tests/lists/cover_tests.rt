@@ -1,11 +1,11 @@
 //! The printed text of lists that together meet every reachable pair of a queue.
 
 use crate::tests::lists::QUEUES;
-use crate::tests::streams::Narrow;
+use crate::tests::streams::{Input, Output, Screen};
 use crate::tests::wanted::{holds, same};
 use commands::{NOTES, replay_text};
-use cover_command::{CoverRequest, answer};
 use ring_machine::Completion;
+use schedule_command::covering::{CoverRequest, answer};
 use std::alloc::Global;
 use std::process::Abort;
 use std::str;
@@ -34,7 +34,7 @@ const FIRST_EXPECTED: &str =
 
 /// The expected text of the last list is the output of `replay`.
 fn ends_with_last<R: Abort>(rt: &R, alloc: Global, text: &str) {
-    let page = replay_text(alloc, QUEUES, &mut LAST.as_bytes()).expect(rt, "a page");
+    let page = replay_text(alloc, QUEUES, &mut Input::of(LAST.as_bytes())).expect(rt, "a page");
     let front = text.strip_suffix(page.as_str()).expect(rt, "this page");
     holds(rt, front.ends_with(LAST));
 }
@@ -51,30 +51,41 @@ fn has_lists<R: Abort>(rt: &R, alloc: Global, text: &str) {
 #[test]
 fn lists_of_both_queues_are_printed(rt: HostRuntime) {
     let alloc = rt.alloc();
-    let (mut output, mut faults) = (Vec::new(alloc), Vec::new(alloc));
-    let mut shown = Vec::new(alloc);
-    let status = answer(alloc, &REQUEST, &mut output, &mut faults, &mut shown, false);
-    same(&rt, (status, faults.len()), (0, 0));
-    let text = str::from_utf8(output.as_slice()).expect(&rt, "a text");
+    let (mut output, mut faults) = (Output::new(alloc), Output::new(alloc));
+    let mut screen = Screen::new(alloc, false);
+    let status = answer(
+        alloc,
+        &REQUEST,
+        &mut output,
+        &mut faults,
+        &mut screen,
+        false,
+    );
+    same(&rt, (status, faults.taken.len()), (0, 0));
+    let text = str::from_utf8(output.taken.as_slice()).expect(&rt, "a text");
     has_lists(&rt, alloc, text);
-    holds(&rt, shown.as_slice().starts_with(SEARCHED.as_bytes()));
+    holds(
+        &rt,
+        screen.shown.as_slice().starts_with(SEARCHED.as_bytes()),
+    );
 }
 
 #[test]
 fn an_output_that_fails_has_a_beginning(rt: HostRuntime) {
     let room = FIRST.len() + 3;
-    let mut output = Narrow::new(rt.alloc(), room);
-    let (mut faults, mut shown) = (Vec::new(rt.alloc()), Vec::new(rt.alloc()));
+    let mut output = Output::narrow(rt.alloc(), room);
+    let mut faults = Output::new(rt.alloc());
+    let mut screen = Screen::new(rt.alloc(), false);
     let status = answer(
         rt.alloc(),
         &REQUEST,
         &mut output,
         &mut faults,
-        &mut shown,
+        &mut screen,
         false,
     );
     let wanted = (1, b"refused 84 output\n".as_slice());
-    same(&rt, (status, faults.as_slice()), wanted);
+    same(&rt, (status, faults.taken.as_slice()), wanted);
     let taken = output.taken.as_slice();
     holds(
         &rt,

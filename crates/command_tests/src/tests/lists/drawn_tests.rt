@@ -126,7 +126,16 @@ const BEGINNINGS: &[(bool, Completion)] = &[
 /// Number of pairs, and ring length.
 const QUEUES: &[(u32, u32)] = &[(1, 8), (3, 64), (8, 4096)];
 
-/// Each of 1,000 moves happens on such queues.
+/// Whether a list has moves of each receive queue and of each transmit queue.
+fn has_each(drawn: &[Drawn], pairs: u32) -> bool {
+    (0..pairs).all(|queue| {
+        let is_of_receive = |d: &Drawn| matches!(d.action, Move::Receive(q, _) if q == queue);
+        let is_of_transmit = |d: &Drawn| matches!(d.action, Move::Transmit(q, _) if q == queue);
+        drawn.iter().any(is_of_receive) && drawn.iter().any(is_of_transmit)
+    })
+}
+
+/// Each of 1,000 moves happens on such queues, and each queue has some.
 fn all_happen<R: Abort>(
     rt: &R,
     alloc: Global,
@@ -145,10 +154,11 @@ fn all_happen<R: Abort>(
     let mut counts = [0; KINDS];
     count(&mut counts, drawn.as_slice());
     same(rt, (pairs, ring, counts[REFUSED]), (pairs, ring, 0));
+    holds(rt, has_each(drawn.as_slice(), pairs));
 }
 
 #[test]
-fn each_move_happens(rt: HostRuntime) {
+fn each_move_happens_and_each_queue_has_some(rt: HostRuntime) {
     for beginning in BEGINNINGS {
         for queues in QUEUES {
             all_happen(&rt, rt.alloc(), *beginning, *queues);

@@ -1,7 +1,7 @@
 //! The printed text of lists.
 
 use crate::tests::lists::QUEUES;
-use crate::tests::streams::Narrow;
+use crate::tests::streams::{Input, Output};
 use crate::tests::wanted::{holds, same};
 use commands::{NOTES, replay_text};
 use ring_machine::Completion;
@@ -34,10 +34,10 @@ const LISTS: &str =
 
 /// The output of a request that succeeds.
 fn printed<A: Abort>(rt: &A, alloc: Global, request: &ScheduleRequest) -> String {
-    let (mut output, mut faults) = (Vec::new(alloc), Vec::new(alloc));
+    let (mut output, mut faults) = (Output::new(alloc), Output::new(alloc));
     let status = answer(alloc, request, &mut output, &mut faults, false);
-    same(rt, (status, faults.len()), (0, 0));
-    String::from_utf8(output).expect(rt, "a text")
+    same(rt, (status, faults.taken.len()), (0, 0));
+    String::from_utf8(output.taken).expect(rt, "a text")
 }
 
 #[test]
@@ -59,7 +59,7 @@ const ONE_EXPECTED: ScheduleRequest = ScheduleRequest {
 
 /// The expected text after a list is the output of `replay`.
 fn is_expected<A: Abort>(rt: &A, alloc: Global, list: &str, whole: &str) {
-    let page = replay_text(alloc, QUEUES, &mut list.as_bytes()).expect(rt, "a page");
+    let page = replay_text(alloc, QUEUES, &mut Input::of(list.as_bytes())).expect(rt, "a page");
     same(rt, whole.strip_prefix(list), Some(page.as_str()));
     holds(rt, whole.ends_with("moves 4 of 4\n"));
 }
@@ -90,10 +90,10 @@ fn is_refused<A: Abort>(
     (room, wanted): (usize, &[u8]),
     line: &str,
 ) {
-    let mut output = Narrow::new(alloc, room);
-    let mut faults = Vec::new(alloc);
+    let mut output = Output::narrow(alloc, room);
+    let mut faults = Output::new(alloc);
     let status = answer(alloc, request, &mut output, &mut faults, false);
-    let told = (status, faults.as_slice(), output.taken.as_slice());
+    let told = (status, faults.taken.as_slice(), output.taken.as_slice());
     same(rt, told, (1, line.as_bytes(), wanted));
 }
 

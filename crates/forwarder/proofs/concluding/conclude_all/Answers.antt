@@ -8,7 +8,7 @@ use Rattle.flows.specs.Reports.{IsReport}
 use Rattle.forwarder.proofs.Places.{by-map}
 use Rattle.forwarder.proofs.Plans.{all-at, drop-first, drop-within, list-more}
 use Rattle.forwarder.proofs.Walking.{Grew, line-met, meets-on}
-use Rattle.watching.proofs.Moving.{moved}
+use Rattle.forwarder.proofs.Moving.{moved}
 use Rattle.forwarder.proofs.concluding.conclude_all.Goals as goal
 
 pub conclude_flow-report-requires : goal.conclude_flow-report-requires

@@ -1,7 +1,7 @@
 use Rattle.std.proofs.Common.{rules, ◌≡◌, ◌∙◌, ◌∷◌}
 use Rattle.std.specs.Vec.Iter.{into_iter_items}
 use Rattle.forwarder.specs.Stopped.{IsStopped}
-use Rattle.watching.proofs.Moving.{zip-first}
+use Rattle.forwarder.proofs.Moving.{zip-first}
 use Rattle.forwarder.proofs.stopping.close_all.Goals as goal
 
 pub close_line-requires-clause-stopped : goal.close_line-requires-clause-stopped

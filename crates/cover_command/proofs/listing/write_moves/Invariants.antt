@@ -1,8 +1,0 @@
--- The lines of so many moves are written.
-use Rattle.std.proofs.Common.{◌≡◌, ◌++◌, take}
-use Rattle.std.specs.String.{string_bytes}
-use Rattle.cover_command.specs.Covers.{move_lines}
-use Rattle.cover_command.proofs.listing.write_moves.Given as goal
-
-abbrev pub invariant-loop-action : goal.invariant-loop-action
-invariant-loop-action l = string_bytes l.text ≡ string_bytes l.initial.text ++ move_lines (take l.action-index l.moves)

@@ -1,0 +1,77 @@
+//! Serving both sides of all flows while others watch them.
+ghost use Rattle.std.specs.Prelude.{◌≡◌, ◌<◌, true, None, All, IfSome, length, map, vec_len};
+ghost use Rattle.controller.specs.Tallying.{nothing};
+ghost use Rattle.counters.specs.Paired.{ArePaired};
+ghost use Rattle.flows.specs.Counting.{driven, none, offered};
+ghost use Rattle.flows.specs.Driven.{is_over};
+ghost use Rattle.teams.specs.Refusals.{Halted};
+ghost use Rattle.forwarder.specs.Watching.{ArePensOf, driven_shown, offered_shown};
+
+use crate::wrapping::{Unwrapped, Wrapped, unwrap_all, wrap_all};
+use counters::{FlowCells, FlowPens};
+use flows::{ControllerFlow, DriverFlow, Served, serve_flows};
+use forwarding::{ForwardError, Gate};
+use std::alloc::Global;
+use std::sync::Wait;
+use std::thread::Threads;
+
+/// Both sides of all flows, with their pens.
+#[derive(Drop)]
+pub struct Shown<'a> {
+    /// Both sides as they came back.
+    pub served: Served<DriverFlow<'a>, ControllerFlow<'a>>,
+    /// The pens that showed their numbers, in the order of the flows.
+    pub pens: Vec<FlowPens>,
+}
+
+/// Serves both sides of all flows as [`serve_flows`] does, while their cells show their counts. Each argument has one
+/// entry a flow, in the order of the flows; no flow has counted anything yet, and no pen has written anything.
+#[tactic(auto, using(flows::proofs::Dealing::memory_halted))]
+pub fn serve_watched<'a, R: Threads + Wait + Sync, G: Gate + Sync>(
+    rt: &R,
+    alloc: Global,
+    gate: &G,
+    drivers: Vec<DriverFlow<'a>>,
+    controllers: Vec<ControllerFlow<'a>>,
+    cells: &'a [FlowCells],
+    pens: Vec<FlowPens>,
+    workers: usize,
+) -> Shown<'a>
+    requires some { 0 < workers }
+    requires flows { (vec_len drivers ≡ length cells.now) × (vec_len controllers ≡ length cells.now) }
+    requires pens { ArePaired cells.now pens.items }
+    requires counts { All (λ f. f.counts ≡ none) drivers.items }
+    requires tallies { All (λ f. f.tally ≡ nothing) controllers.items }
+    ensures refused { IfSome result.served.refusal (λ e. Halted G.answers gate.now e) }
+    ensures drivers { map (λ f. f.key) result.served.drivers.items ≡ map (λ f. f.key) drivers.entry.items }
+    ensures controllers { map (λ f. f.key) result.served.controllers.items ≡ map (λ f. f.key) controllers.entry.items }
+    ensures over { result.served.refusal ≡ None → All (λ f. is_over f.phase ≡ true) result.served.drivers.items }
+    ensures pens { ArePensOf cells.entry.now result.pens.items }
+    ensures driven { map driven_shown result.pens.items ≡ map (λ f. driven f.counts) result.served.drivers.items }
+    ensures offered { map offered_shown result.pens.items ≡ map (λ f. offered f.tally) result.served.controllers.items }
+{
+    let count = cells.len();
+    let (Ok(rooms), Ok(back)) = (Wrapped::rooms(alloc, count), Unwrapped::rooms(alloc, count))
+    else {
+        let refusal = Some(ForwardError::Memory);
+        return Shown {
+            served: Served {
+                drivers,
+                controllers,
+                refusal,
+            },
+            pens,
+        };
+    };
+    let flows = wrap_all(drivers, controllers, cells, pens, rooms);
+    let served = serve_flows(rt, alloc, gate, flows.drivers, flows.controllers, workers);
+    let back = unwrap_all(served.drivers, served.controllers, back);
+    Shown {
+        served: Served {
+            drivers: back.drivers,
+            controllers: back.controllers,
+            refusal: served.refusal,
+        },
+        pens: back.pens,
+    }
+}
