@@ -129,8 +129,10 @@ const QUEUES: &[(u32, u32)] = &[(1, 8), (3, 64), (8, 4096)];
 /// Whether a list has moves of each receive queue and of each transmit queue.
 fn has_each(drawn: &[Drawn], pairs: u32) -> bool {
     (0..pairs).all(|queue| {
-        let is_of_receive = |d: &Drawn| matches!(d.action, Move::Receive(q, _) if q == queue);
-        let is_of_transmit = |d: &Drawn| matches!(d.action, Move::Transmit(q, _) if q == queue);
+        let is_of_receive =
+            |d: &Drawn| matches!(d.action, Move::Receive(q, _) if u32::from(q.number()) == queue);
+        let is_of_transmit =
+            |d: &Drawn| matches!(d.action, Move::Transmit(q, _) if u32::from(q.number()) == queue);
         drawn.iter().any(is_of_receive) && drawn.iter().any(is_of_transmit)
     })
 }
