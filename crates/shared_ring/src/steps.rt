@@ -3,6 +3,7 @@ ghost use Rattle.std.specs.Prelude.{◌≡◌};
 ghost use Rattle.limits.specs.RingLength.{IsRingLength};
 ghost use Rattle.shared_ring.specs.Directions.{IsDirection};
 
+mod closing;
 mod controller;
 mod driver;
 mod gathering;

@@ -1,22 +1,20 @@
-//! Making a ring, the meeting of its ends, and closing it.
-ghost use Rattle.std.specs.Prelude.{◌≡◌, ◌+◌, ◌<◌, ◌≤◌, [], IfOk, replicate, vec_capacity};
-ghost use Rattle.std.specs.Mem.Slots.{slots_items, slots_len, IsFull};
+//! Taking the seats of a ring, splitting and joining them: making a ring, and the meeting of its ends.
+ghost use Rattle.std.specs.Prelude.{◌≡◌, IfOk};
 ghost use Rattle.limits.specs.RingLength.{IsRingLength};
-ghost use Rattle.limits.specs.declared.profile.TheConstants.{MOST_RING};
 ghost use Rattle.shared_ring.specs.Directions.{IsDirection};
 ghost use Rattle.shared_ring.specs.Ends.{driver_of, controller_of};
-ghost use Rattle.shared_ring.specs.Meeting.{MadeSeats, Met, LeftIn, TakenApart, kept_at, kept_upto};
+ghost use Rattle.shared_ring.specs.Meeting.{MadeSeats, Met};
 ghost use Rattle.shared_ring.specs.Seats.{driver_part, controller_part};
-ghost use Rattle.shared_ring.specs.Tables.{IsTableOf, words_of};
+ghost use Rattle.shared_ring.specs.Tables.{IsTableOf};
 ghost use Rattle.shared_ring.specs.declared.events.View.TheVariants.{Driver, Controller, Both, Nobody};
 
 use super::{ControllerSeat, DriverSeat, EndSeat, Ring, RingSeat, RingTable};
 use crate::direction::Direction;
 use crate::lending::{Deal, Halve, Lend, MeetLoad, Return, Unite};
-use crate::registers::CONTROL;
-use atomic_table::{Closed, Table};
+use crate::registers::{CONTROL, opening_words};
+use atomic_table::Table;
 use buffer_pool::Buf;
-use ring_model::{Completion, places_between};
+use ring_model::Completion;
 use std::alloc::{AllocError, Global};
 use std::marker::PhantomData;
 
@@ -74,53 +72,10 @@ impl<D, C, R: Direction<D, C>> Ring<D, C, R> {
         let lent = table.split_seat::<Halve>(&mut driver.seat);
         table.join_seat::<Return>(&mut controller.seat, lent);
     }
-
-    /// Joins both seats and closes the table. Returns its slots, and the room for their buffers.
-    fn gather(
-        self,
-        driver: DriverSeat<D, C, R>,
-        controller: ControllerSeat<D, C, R>,
-    ) -> (Closed<Buf, Global>, Vec<Option<Buf>>)
-        requires driver { driver.table ≡ self }
-        requires controller { controller.table ≡ self }
-        ensures slots { IsFull result.0.slots × (slots_len result.0.slots ≡ driver.table.slots) }
-        ensures left { LeftIn (driver_of R.form driver) (controller_of R.form controller) (slots_items result.0.slots) }
-        ensures room { (result.1.items ≡ []) × (driver.table.slots ≤ vec_capacity result.1) }
-    {
-        let EndSeat { mut seat, .. } = driver;
-        let EndSeat {
-            seat: mut other,
-            ..
-        } = controller;
-        unite(&self.table, &mut seat, &mut other);
-        let Ring { table, room } = self;
-        (table.close_with(seat), room)
-    }
-
-    /// Takes the buffers out of a ring's slots: of each place fewer than `out` after `next`, except that of a held
-    /// buffer.
-    pub fn take_apart(
-        self,
-        driver: DriverSeat<D, C, R>,
-        controller: ControllerSeat<D, C, R>,
-        next: u16,
-        out: u16,
-        serve: u16,
-        holding: bool,
-    ) -> Vec<Option<Buf>>
-        requires driver { driver.table ≡ self }
-        requires controller { controller.table ≡ self }
-        requires next { next < driver.table.slots }
-        ensures { TakenApart (driver_of R.form driver) (controller_of R.form controller) next out serve holding result.items }
-    {
-        let size = driver.size();
-        let (closed, room) = self.gather(driver, controller);
-        empty(closed, room, size, next, out, serve, holding)
-    }
 }
 
 /// Joins the controller's record to that of the driver's seat, and leaves the controller's seat without one.
-fn unite<D, C, R: Direction<D, C>>(
+pub(super) fn unite<D, C, R: Direction<D, C>>(
     table: &RingTable<D, C, R>,
     driver: &mut RingSeat<D, C>,
     controller: &mut RingSeat<D, C>,
@@ -134,48 +89,4 @@ fn unite<D, C, R: Direction<D, C>>(
 {
     let lent = table.shared.split_seat::<Lend>(controller);
     table.shared.join_seat::<Unite>(driver, lent);
-}
-
-/// Returns the buffers of a closed table, in the room that was reserved for them.
-fn empty(
-    mut closed: Closed<Buf, Global>,
-    mut room: Vec<Option<Buf>>,
-    size: u16,
-    next: u16,
-    out: u16,
-    serve: u16,
-    holding: bool,
-) -> Vec<Option<Buf>>
-    requires slots { IsFull closed.slots × (slots_len closed.slots ≡ size) }
-    requires room { (room.items ≡ []) × (size ≤ vec_capacity room) }
-    requires next { next < size }
-    requires lawful { IsRingLength size }
-    ensures { result.items ≡ kept_upto (kept_at size next out serve holding (slots_items closed.slots)) size }
-{
-    for place in 0..size {
-        let buf = closed.take(place as usize);
-        if places_between(next, place, size) < out && !(holding && place == serve) {
-            room.push_reserved(Some(buf));
-        } else {
-            room.push_reserved(None);
-        }
-    }
-    closed.free();
-    room
-}
-
-/// Returns the words of a new ring, all 0, with one more if it reports by a head word.
-fn opening_words(
-    alloc: Global,
-    count: usize,
-    completion: Completion,
-) -> Result<Vec<u64>, AllocError>
-    requires { count ≤ MOST_RING }
-    ensures { IfOk result (λ v. v.items ≡ replicate (words_of count completion) 0) }
-{
-    let words = match completion {
-        Completion::Status => count + 4,
-        Completion::Head => count + 5,
-    };
-    vec![in alloc; 0u64; words]
 }

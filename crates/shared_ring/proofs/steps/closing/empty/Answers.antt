@@ -3,7 +3,7 @@ use Rattle.std.proofs.Common.{◌≡◌, length, ap, ◌∙◌, arith}
 use Rattle.std.specs.Mem.Slots.{slots_items}
 use Rattle.shared_ring.specs.Meeting.{kept_at}
 use Rattle.shared_ring.proofs.Meeting.{kept-length}
-use Rattle.shared_ring.proofs.steps.gathering.empty.Goals as goal
+use Rattle.shared_ring.proofs.steps.closing.empty.Goals as goal
 
 pub push_reserved-requires : goal.push_reserved-requires
 push_reserved-requires c = let i = c.loop-place.invariant in let ok = c.loop-place.room.ok in let t = c.loop-place-test.true in let r = i.4 in
