@@ -6,7 +6,7 @@ use Rattle.ring_model.specs.shared.Frames.{Bytes}
 use Rattle.ring_model.specs.shared.Segments.{Segment}
 use Rattle.shared_ring.specs.declared.events.DriverEvent.{DriverEvent}
 use Rattle.shared_ring.specs.declared.events.ControllerEvent.{ControllerEvent}
-use Rattle.shared_ring.specs.Accesses.{Access, access}
+use Rattle.shared_ring.specs.Accesses.{Access, load, store}
 use Rattle.shared_ring.specs.Forms.{Reading}
 use Rattle.shared_ring.specs.Records as shared
 use Rattle.shared_ring.specs.Registers.{quiet_index}
@@ -56,16 +56,16 @@ abbrev pub control_own : RxControlled → RxControllerOwn → RxControlled
 control_own c (WroteBack place word b) = record c { served = c.served ++ segment_of word b ∷ []; held = None }
 control_own c SaidQuiet = record c { barred = true }
 
--- The word that a step loads or stores in a ring of `n` places, and the value that it finds or stores there.
+-- The access that a step makes in a ring of `n` places.
 abbrev pub driver_names : ℕ → RxDriverOwn → Access
-driver_names n (NotDone place word) = access place word
-driver_names n (Taken place word b) = access place word
-driver_names n (LoadedQuiet word) = access (quiet_index n) word
-driver_names n ClearedQuiet = access (quiet_index n) 0
+driver_names n (NotDone place word) = load place word
+driver_names n (Taken place word b) = load place word
+driver_names n (LoadedQuiet word) = load (quiet_index n) word
+driver_names n ClearedQuiet = store (quiet_index n) 0
 
 abbrev pub controller_names : ℕ → RxControllerOwn → Access
-controller_names n (WroteBack place word b) = access place word
-controller_names n SaidQuiet = access (quiet_index n) 1
+controller_names n (WroteBack place word b) = store place word
+controller_names n SaidQuiet = store (quiet_index n) 1
 
 abbrev pub control : ℕ → RxControlled → ControllerStep → RxControlled
 control n = shared.control n control_own

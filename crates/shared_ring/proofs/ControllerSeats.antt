@@ -20,6 +20,7 @@ use Rattle.shared_ring.specs.Ends.{Side, grown, controller_of}
 use Rattle.shared_ring.specs.Forms.{Form, control, controlling}
 use Rattle.shared_ring.specs.Keeping.{IsRuled, IsControllerSeat}
 use Rattle.shared_ring.specs.Own.{Event, MayStore, MayGive}
+use Rattle.shared_ring.specs.Accesses.{Load}
 use Rattle.shared_ring.specs.Plays.{SeatOf, longer, IsControl, IsTail, IsNext, answers, controller_end, gives, stores, Loads, Takes}
 use Rattle.shared_ring.specs.Records.{Controlled, controller_slots, uncontrolled, count_at}
 use Rattle.shared_ring.specs.Seats.{controller_part}
@@ -123,10 +124,10 @@ module _ {Ring Posted Served Given D C : Type 0} (form : Form Ring Posted Served
 
         -- A4, B4
         pub fetch-asks : (id place : ℕ) → place ≡ length (done_by now).served % now.table.slots → is_serving (done_by now).state ≡ true → 0 < (done_by now).known - length (done_by now).served → (done_by now).held ≡ None → (done_by now).barred ≡ false
-            → LoadAsks form table ring key me (Takes (controller_end form) (λ n es p r b. controller.Fetched p r b) (IsNext form)) id place
+            → LoadAsks form table ring key me (Takes (controller_end form) (λ n es p r b. controller.Fetched p r b) (IsNext form) Load) id place
         fetch-asks id place at serving some none_held free = let f : (done_by now).known - length (done_by now).served ≡ x.known - length x.served = words-are (λ y n. y.known - length y.served) in
             let more : length x.served < x.known = omega arith in
-            standing.load-asks stands form (Takes (controller_end form) (λ n es p r b. controller.Fetched p r b) (IsNext form)) id place (below place (at-serve place at)) (may-take form size mode (controller_role (form.Lies size mode)) es id its (Takes (controller_end form) (λ n es p r b. controller.Fetched p r b) (IsNext form)) place (λ r b. controller.Fetched place r b) (λ r b. form.IsFetched size x r b)
+            standing.load-asks stands form (Takes (controller_end form) (λ n es p r b. controller.Fetched p r b) (IsNext form) Load) id place (below place (at-serve place at)) (may-take form size mode (controller_role (form.Lies size mode)) es id its (Takes (controller_end form) (λ n es p r b. controller.Fetched p r b) (IsNext form) Load) place (λ r b. controller.Fetched place r b) (λ r b. form.IsFetched size x r b)
             (λ q ds words homes pos l. let a = inv.law.allowed size mode q ds es words homes pos l in let f = a.controller in
             let g = f.fetch place (at-serve place at) (serves serving) more (unheld none_held) (sym (words-are (λ y n. y.barred)) ∙ free) in (g.buf, g.home, g.fetched, g.agrees)) (λ r b t. record { buf = b; adds = record { seat = refl; names = refl }; told = t }))
 
@@ -136,7 +137,7 @@ module _ {Ring Posted Served Given D C : Type 0} (form : Form Ring Posted Served
         fetch-seat : (place r : ℕ) (b : Buffer) (me1 me2 : SeatOf D C) → me1 ≡ (longer (controller_end form) me (controller.Fetched place r b), (place, b) ∷ me.1) → me2 ≡ (me1.0, (place, blank) ∷ rest me1.1) → me2 ≡ (Controller (es ++ controller.Fetched place r b ∷ []), (place, blank) ∷ me.1)
         fetch-seat place r b me1 me2 fetched left = left ∙ ap (λ (m : SeatOf D C). let y : SeatOf D C = (m.0, (place, blank) ∷ rest m.1) in y) fetched
 
-        module _ (place r : ℕ) (table' : TableId) (me1 me2 : SeatOf D C) (same : table' ≡ table) (t : Takes (controller_end form) (λ n es p r b. controller.Fetched p r b) (IsNext form) (step ring.slots place 0 0 none) me r me1) (left : me2 ≡ (me1.0, (place, blank) ∷ rest me1.1)) where
+        module _ (place r : ℕ) (table' : TableId) (me1 me2 : SeatOf D C) (same : table' ≡ table) (t : Takes (controller_end form) (λ n es p r b. controller.Fetched p r b) (IsNext form) Load (step ring.slots place 0 0 none) me r me1) (left : me2 ≡ (me1.0, (place, blank) ∷ rest me1.1)) where
           pub fetch-keeps : place ≡ length (done_by now).served % now.table.slots → (done_by now).held ≡ None → IsControllerSeat form table' me2 size mode
           fetch-keeps at none_held =
               made table' me2 (es ++ controller.Fetched place r t.buf ∷ []) ((place, blank) ∷ me.1) (control form size x (controller.Fetched place r t.buf)) same (fetch-seat place r t.buf me1 me2 t.adds.seat left) (did size es (controller.Fetched place r t.buf))

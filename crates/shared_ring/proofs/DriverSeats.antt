@@ -22,6 +22,7 @@ use Rattle.shared_ring.specs.Ends.{Side, grown}
 use Rattle.shared_ring.specs.Forms.{Form, drive, driving}
 use Rattle.shared_ring.specs.Keeping.{IsRuled, IsDriverSeat}
 use Rattle.shared_ring.specs.Own.{Event, Tells, SameOut, OneBack, MayLoad, MayClear, MayTake, MayEnd, Missed, Came}
+use Rattle.shared_ring.specs.Accesses.{Kind, Store}
 use Rattle.shared_ring.specs.Plays.{SeatOf, longer, IsControl, IsPlace, asks, driver_end, gives, stores, Loads, Takes, Finds}
 use Rattle.shared_ring.specs.Records.{Driven, IsWindow, driver_slots, undriven}
 use Rattle.shared_ring.specs.Seats.{driver_part}
@@ -246,10 +247,10 @@ module _ {Ring Posted Served Given D C : Type 0} (form : Form Ring Posted Served
                 (record { back = omega arith; room = omega arith })
 
             -- what the event is, of what was loaded there or stored
-            came-seat : (r : ℕ) (me1 : SeatOf D C) (t : Takes (driver_end form) event tells (step ring.slots place 0 0 none) me r me1) → me1 ≡ (longer (driver_end form) me (event size es place r t.buf), (place, t.buf) ∷ me.1)
+            came-seat : {kind : Kind} (r : ℕ) (me1 : SeatOf D C) (t : Takes (driver_end form) event tells kind (step ring.slots place 0 0 none) me r me1) → me1 ≡ (longer (driver_end form) me (event size es place r t.buf), (place, t.buf) ∷ me.1)
             came-seat r me1 t = t.adds.seat ∙ ap (λ (n : ℕ). let x : SeatOf D C = (longer (driver_end form) me (event n es place r t.buf), (place, t.buf) ∷ me.1) in x) counts
 
-            module _ (r : ℕ) (b : Buffer) (table' : TableId) (me1 me2 me3 : SeatOf D C) (same : table' ≡ table) (t : Takes (driver_end form) event tells (step ring.slots place 0 0 none) me r me1) (l : me2 ≡ (me1.0, (place, blank) ∷ rest me1.1)) (turn : me3 ≡ (me2.0, turned me2.1)) where
+            module _ {kind : Kind} (r : ℕ) (b : Buffer) (table' : TableId) (me1 me2 me3 : SeatOf D C) (same : table' ≡ table) (t : Takes (driver_end form) event tells kind (step ring.slots place 0 0 none) me r me1) (l : me2 ≡ (me1.0, (place, blank) ∷ rest me1.1)) (turn : me3 ≡ (me2.0, turned me2.1)) where
               came-steps : b ≡ front_buffer me1.1 → side table' me3 ≡ grown now (event now.table.slots now.events place r b)
               came-steps got = let is : b ≡ t.buf = got ∙ ap (λ (m : SeatOf D C). front_buffer m.1) t.adds.seat in
                   one-more (event size es place r t.buf) table' me3 (me.1 ++ (place, blank) ∷ []) same (back-seat (event size es place r t.buf) t.buf me1 me2 me3 (came-seat r me1 t) l turn)
@@ -264,12 +265,12 @@ module _ {Ring Posted Served Given D C : Type 0} (form : Form Ring Posted Served
               clear-may : MayClear form event tells size mode (driver_part me.0) place
               clear-may = here (λ n m xs. MayClear form event tells n m xs place) may
 
-              pub clear_own-asks : (id : ℕ) → Asks form table ring key me (Takes (driver_end form) event tells) id place 0
-              clear_own-asks id = let m = clear-may in standing.store-asks stands form (Takes (driver_end form) event tells) id place 0 (below place (length d.given + d.reclaimed) (next-is place at))
-                  (may-clear form size mode (driver_role (form.Lies size mode)) es id its (Takes (driver_end form) event tells) place (λ b. event size es place 0 b) (λ b. tells size es place 0 b)
+              pub clear_own-asks : (id : ℕ) → Asks form table ring key me (Takes (driver_end form) event tells Store) id place 0
+              clear_own-asks id = let m = clear-may in standing.store-asks stands form (Takes (driver_end form) event tells Store) id place 0 (below place (length d.given + d.reclaimed) (next-is place at))
+                  (may-clear form size mode (driver_role (form.Lies size mode)) es id its (Takes (driver_end form) event tells Store) place (λ b. event size es place 0 b) (λ b. tells size es place 0 b)
                   (λ q cs words homes pos l. let o = m.goes q cs words homes pos l in (o.buf, o.home, o.told, o.agrees)) (λ b t. record { buf = b; adds = record { seat = refl; names = m.names b }; told = t }))
 
-              module _ (b : Buffer) (table' : TableId) (me1 me2 me3 : SeatOf D C) (same : table' ≡ table) (t : Takes (driver_end form) event tells (step ring.slots place 0 0 none) me 0 me1) (l : me2 ≡ (me1.0, (place, blank) ∷ rest me1.1)) (turn : me3 ≡ (me2.0, turned me2.1)) where
+              module _ (b : Buffer) (table' : TableId) (me1 me2 me3 : SeatOf D C) (same : table' ≡ table) (t : Takes (driver_end form) event tells Store (step ring.slots place 0 0 none) me 0 me1) (l : me2 ≡ (me1.0, (place, blank) ∷ rest me1.1)) (turn : me3 ≡ (me2.0, turned me2.1)) where
                 pub clear_own-keeps : IsDriverSeat form table' me3 size mode
                 clear_own-keeps = let m = clear-may in back-keeps (event size es place 0 t.buf) t.buf table' me1 me2 me3 same (came-seat 0 me1 t) l turn (m.back t.buf)
 

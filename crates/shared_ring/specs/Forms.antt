@@ -18,7 +18,7 @@ pub record Reading (Posted Served Given D C : Type 0) : Type 1 where
   pub posting : ℕ → Buffer → Posted
   pub drive_own : Driven Posted Given → D → Driven Posted Given
   pub control_own : Controlled Served → C → Controlled Served
-  -- The word of a table of `n` places, and the value, of a direction's own step.
+  -- The access, in a table of `n` places, of a direction's own step.
   pub driver_names : ℕ → D → Access
   pub controller_names : ℕ → C → Access
   -- What a driver learns of its controller, from the head that it loads and from the direction's own steps.
@@ -70,7 +70,7 @@ module _ {Ring Posted Served Given D C : Type 0} (form : Form Ring Posted Served
   abbrev pub controlling : ℕ → List (ControllerEvent C) → Controlled Served
   controlling n es = records.controlling_from n form.control_own uncontrolled es
 
-  -- The word and the value of an event.
+  -- The access of an event.
   abbrev pub driver_access : ℕ → DriverEvent D → Access
   driver_access n e = accesses.driver_access form.driver_names n e
 

@@ -1,7 +1,6 @@
 -- The steps of one direction: what each requires of the agreement, and how it changes its end's record. An event names
--- the word of its step and the value found or stored there. `event` maps the ring's length, the record so far, the
--- place of the word, the value, and the buffer of the slot that the step takes or gives to the event; `tells` states
--- further facts about them.
+-- the access of its step. `event` maps the ring's length, the record so far, the place of the word, the value, and the
+-- buffer of the slot that the step takes or gives to the event; `tells` states further facts about them.
 use Rattle.std.specs.Prelude.{◌≡◌, ℕ, ◌+◌, ◌<◌, Bool, true, false, List, [], ◌∷◌, ◌++◌, length, slice_index, slice_set, None}
 use mathlib.Core.Option as maybe
 use mathlib.Core.Option.{some, none}
@@ -12,7 +11,7 @@ use Rattle.shared_ring.specs.declared.events.DriverEvent.{DriverEvent}
 use Rattle.shared_ring.specs.declared.events.ControllerEvent.{ControllerEvent}
 use Rattle.shared_ring.specs.Directions.{Agrees}
 use Rattle.shared_ring.specs.Ends.{Side, grown}
-use Rattle.shared_ring.specs.Accesses.{access}
+use Rattle.shared_ring.specs.Accesses.{load, store}
 use Rattle.shared_ring.specs.Forms.{Form, drive, driving, control, controlling, driver_access, controller_access}
 use Rattle.shared_ring.specs.Records.{Driven, Controlled}
 use Rattle.shared_ring.specs.Tables.{words_of}
@@ -58,13 +57,13 @@ module _ {Ring Posted Served Given D C : Type 0} (form : Form Ring Posted Served
     pub goes : (q : Ring) (cs : List (ControllerEvent C)) (words : List ℕ) (homes : List (maybe.Option Buffer)) → 1 < n → form.Lies n mode q es cs words homes
         → tells n es word (slice_index words word) blank × Agrees form n mode (es ++ event n es word (slice_index words word) blank ∷ []) cs words homes
     pub same : (r : ℕ) → SameOut d (drive form d (event n es word r blank))
-    pub names : (r : ℕ) → driver_access form n (event n es word r blank) ≡ access word r
+    pub names : (r : ℕ) → driver_access form n (event n es word r blank) ≡ load word r
 
   -- A store of 0 that brings a buffer back.
   pub record MayClear (place : ℕ) : Type 0 where
     pub goes : (q : Ring) (cs : List (ControllerEvent C)) (words : List ℕ) (homes : List (maybe.Option Buffer)) → 1 < n → form.Lies n mode q es cs words homes → Out place 0 homes cs (slice_set words place 0)
     pub back : (b : Buffer) → OneBack d (drive form d (event n es place 0 b))
-    pub names : (b : Buffer) → driver_access form n (event n es place 0 b) ≡ access place 0
+    pub names : (b : Buffer) → driver_access form n (event n es place 0 b) ≡ store place 0
 
   -- A load that brings a buffer back if the word is done. If not, the event is `missed`.
   pub record MayTake (missed : ℕ → ℕ → DriverEvent D) (done : ℕ → Bool) (place : ℕ) : Type 0 where
@@ -74,8 +73,8 @@ module _ {Ring Posted Served Given D C : Type 0} (form : Form Ring Posted Served
         → Out place (slice_index words place) homes cs words
     pub same : (r : ℕ) → SameOut d (drive form d (missed place r))
     pub back : (r : ℕ) (b : Buffer) → OneBack d (drive form d (event n es place r b))
-    pub names_missed : (r : ℕ) → driver_access form n (missed place r) ≡ access place r
-    pub names : (r : ℕ) (b : Buffer) → driver_access form n (event n es place r b) ≡ access place r
+    pub names_missed : (r : ℕ) → driver_access form n (missed place r) ≡ load place r
+    pub names : (r : ℕ) (b : Buffer) → driver_access form n (event n es place r b) ≡ load place r
 
 module _ {Ring Posted Served Given D C : Type 0} (form : Form Ring Posted Served Given D C) (event : Event (DriverEvent D)) (n : ℕ) (mode : Completion) (es : List (DriverEvent D)) where
   -- A store of 0 that ends the epoch.
@@ -84,7 +83,7 @@ module _ {Ring Posted Served Given D C : Type 0} (form : Form Ring Posted Served
     pub goes : (q : Ring) (cs : List (ControllerEvent C)) (words : List ℕ) (homes : List (maybe.Option Buffer)) → 1 < n → form.Lies n mode q es cs words homes
         → Agrees form n mode (es ++ event n es word 0 blank ∷ []) cs (slice_set words word 0) homes
     pub gone : AllGone (drive form (driving form es) (event n es word 0 blank))
-    pub names : driver_access form n (event n es word 0 blank) ≡ access word 0
+    pub names : driver_access form n (event n es word 0 blank) ≡ store word 0
 
 module _ {Ring Posted Served Given D C : Type 0} (form : Form Ring Posted Served Given D C) (event : Event (ControllerEvent C)) (n : ℕ) (mode : Completion) (es : List (ControllerEvent C)) where
   abbrev c : Controlled Served
@@ -97,7 +96,7 @@ module _ {Ring Posted Served Given D C : Type 0} (form : Form Ring Posted Served
         → Agrees form n mode ds (es ++ event n es word v blank ∷ []) (slice_set words word v) homes
     pub served : length (control form n c (event n es word v blank)).served ≡ length c.served
     pub held : (control form n c (event n es word v blank)).held ≡ c.held
-    pub names : controller_access form n (event n es word v blank) ≡ access word v
+    pub names : controller_access form n (event n es word v blank) ≡ store word v
 
   -- A store that gives the slot of the fetched buffer back.
   pub record MayGive (place word v : ℕ) (b : Buffer) : Type 0 where
@@ -105,7 +104,7 @@ module _ {Ring Posted Served Given D C : Type 0} (form : Form Ring Posted Served
     pub goes : (q : Ring) (ds : List (DriverEvent D)) (words : List ℕ) (homes : List (maybe.Option Buffer)) → 1 < n → form.Lies n mode q ds es words homes
         → Agrees form n mode ds (es ++ event n es word v b ∷ []) (slice_set words word v) (slice_set homes place (some b))
     pub held : (control form n c (event n es word v b)).held ≡ None
-    pub names : controller_access form n (event n es word v b) ≡ access word v
+    pub names : controller_access form n (event n es word v b) ≡ store word v
 
 -- The result of a load that may bring a buffer back.
 module _ {E : Type 0} (event : Event E) (tells : Tells E) (missed : ℕ → ℕ → E) (done : ℕ → Bool) (old : Side E) (place r : ℕ) where

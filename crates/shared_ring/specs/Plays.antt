@@ -9,7 +9,7 @@ use Rattle.shared_ring.specs.declared.events.ControllerEvent.{ControllerEvent}
 use Rattle.shared_ring.specs.declared.events.ControllerEvent.TheVariants.{Enabled, Disabled}
 use Rattle.shared_ring.specs.declared.events.View.{View}
 use Rattle.shared_ring.specs.declared.events.View.TheVariants.{Driver, Controller, Both}
-use Rattle.shared_ring.specs.Accesses.{Access, access}
+use Rattle.shared_ring.specs.Accesses.{Kind, Load, Store, Access}
 use Rattle.shared_ring.specs.Forms.{Form, driving, controlling, driver_access, controller_access}
 use Rattle.shared_ring.specs.Own.{Event, Tells}
 use Rattle.shared_ring.specs.Records.{count_at, driver_slots, controller_slots, IsWindow}
@@ -27,8 +27,8 @@ SeatOf D C = Seated (DriverEvent D) (ControllerEvent C)
 pub record Deals {D C : Type 0} (st : Step Buffer) (m : Seated D C) (r : ℕ) (m' : Seated D C) : Type 0 where
   pub seat : m' ≡ (Both [] [], empty_slots st.slots 0 st.slots)
 
--- An end of a ring: its record in a view, and the view of the seat that has a record. In a ring of `n` places: the word
--- and value of an event, the slots of its seat after a record, and a fact about every record.
+-- An end of a ring: its record in a view, and the view of the seat that has a record. In a ring of `n` places: the
+-- access of an event, the slots of its seat after a record, and a fact about every record.
 pub record End (V E : Type 0) : Type 1 where
   pub part : V → List E
   pub seat : List E → V
@@ -79,39 +79,39 @@ module _ {V E : Type 0} (whose : End V E) where
   abbrev pub longer : Me Buffer V → E → V
   longer m e = whose.seat (whose.part m.0 ++ e ∷ [])
 
-  -- The end's record grows by this event, which names the word of the step and the value found or stored there. The
-  -- seat then has these slots.
-  pub record Adds (st : Step Buffer) (m : Me Buffer V) (r : ℕ) (e : E) (slots : List (ℕ × Buffer)) (m' : Me Buffer V) : Type 0 where
+  -- The end's record grows by this event, which names the access: its kind, the word of the step, and the value found
+  -- or stored there. The seat then has these slots.
+  pub record Adds (kind : Kind) (st : Step Buffer) (m : Me Buffer V) (r : ℕ) (e : E) (slots : List (ℕ × Buffer)) (m' : Me Buffer V) : Type 0 where
     pub seat : m' ≡ (longer m e, slots)
-    pub names : whose.names st.slots e ≡ access st.word r
+    pub names : whose.names st.slots e ≡ record { kind = kind; index = st.word; value = r }
 
   -- The law of every step of an end: its record grows by exactly one event.
-  pub record Counts (st : Step Buffer) (m : Me Buffer V) (r : ℕ) (m' : Me Buffer V) : Type 0 where
+  pub record Counts (kind : Kind) (st : Step Buffer) (m : Me Buffer V) (r : ℕ) (m' : Me Buffer V) : Type 0 where
     pub event : E
     pub slots : List (ℕ × Buffer)
-    pub adds : Adds st m r event slots m'
+    pub adds : Adds kind st m r event slots m'
 
   -- A store.
   abbrev pub stores : Event E → Step Buffer → Me Buffer V → ℕ → Me Buffer V → Type 0
-  stores event st m r m' = Adds st m r (event st.slots (whose.part m.0) st.word r blank) m.1 m'
+  stores event st m r m' = Adds Store st m r (event st.slots (whose.part m.0) st.word r blank) m.1 m'
 
   -- A store that gives back the buffer in the slot that the seat took last.
   abbrev pub gives : Event E → Step Buffer → Me Buffer V → ℕ → Me Buffer V → Type 0
-  gives event st m r m' = Adds st m r (event st.slots (whose.part m.0) st.word r (front_buffer m.1)) (rest m.1) m'
+  gives event st m r m' = Adds Store st m r (event st.slots (whose.part m.0) st.word r (front_buffer m.1)) (rest m.1) m'
 
   module _ (event : Event E) (tells : Tells E) where
     -- A load, and what it establishes.
     pub record Loads (st : Step Buffer) (m : Me Buffer V) (r : ℕ) (m' : Me Buffer V) : Type 0 where
-      pub adds : Adds st m r (event st.slots (whose.part m.0) st.word r blank) m.1 m'
+      pub adds : Adds Load st m r (event st.slots (whose.part m.0) st.word r blank) m.1 m'
       pub told : tells st.slots (whose.part m.0) st.word r blank
 
     -- A load or a store that takes a buffer out of its slot.
-    pub record Takes (st : Step Buffer) (m : Me Buffer V) (r : ℕ) (m' : Me Buffer V) : Type 0 where
+    pub record Takes (kind : Kind) (st : Step Buffer) (m : Me Buffer V) (r : ℕ) (m' : Me Buffer V) : Type 0 where
       pub buf : Buffer
-      pub adds : Adds st m r (event st.slots (whose.part m.0) st.word r buf) ((st.word, buf) ∷ m.1) m'
+      pub adds : Adds kind st m r (event st.slots (whose.part m.0) st.word r buf) ((st.word, buf) ∷ m.1) m'
       pub told : tells st.slots (whose.part m.0) st.word r buf
 
     -- A load that takes a buffer out if the word is done.
     pub record Finds (missed : ℕ → ℕ → E) (done : ℕ → Bool) (st : Step Buffer) (m : Me Buffer V) (r : ℕ) (m' : Me Buffer V) : Type 0 where
-      pub undone : done r ≡ false → Adds st m r (missed st.word r) m.1 m'
-      pub taken : done r ≡ true → Takes st m r m'
+      pub undone : done r ≡ false → Adds Load st m r (missed st.word r) m.1 m'
+      pub taken : done r ≡ true → Takes Load st m r m'

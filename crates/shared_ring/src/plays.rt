@@ -35,9 +35,9 @@ impl<D, C, R: Direction<D, C>> EndEvent<D, C, R> for ControllerEvent<C> {
     ghost whose = { controller_end R.form };
 }
 
-/// A play by which an end makes a step. It adds exactly one event to the end's record, with the word that was loaded or
-/// stored and the value, so no step is missing from the record.
-pub trait EndPlay<E: EndEvent<D, C, R>, D, C, R: Direction<D, C>>: Play<
+/// A play by which an end loads a word. It adds exactly one event to the end's record, which names the load, so no load
+/// is missing from the record.
+pub trait EndLoad<E: EndEvent<D, C, R>, D, C, R: Direction<D, C>>: Play<
     Buf,
     View<DriverEvent<D>, ControllerEvent<C>>,
 > {
@@ -46,9 +46,27 @@ pub trait EndPlay<E: EndEvent<D, C, R>, D, C, R: Direction<D, C>>: Play<
     ghost use Rattle.buffer_pool.specs.Buffer.{Buffer};
     ghost use Rattle.shared_ring.specs.declared.events.DriverEvent.{DriverEvent};
     ghost use Rattle.shared_ring.specs.declared.events.ControllerEvent.{ControllerEvent};
+    ghost use Rattle.shared_ring.specs.Accesses.{Load};
     ghost use Rattle.shared_ring.specs.Plays.{Seated, Counts};
 
-    ghost counts: { (st : Step Buffer) (m : Seated (DriverEvent D) (ControllerEvent C)) (r : ℕ) (m' : Seated (DriverEvent D) (ControllerEvent C)) → Self.then st m r m' → Counts E.whose st m r m' };
+    ghost counts: { (st : Step Buffer) (m : Seated (DriverEvent D) (ControllerEvent C)) (r : ℕ) (m' : Seated (DriverEvent D) (ControllerEvent C)) → Self.then st m r m' → Counts E.whose Load st m r m' };
+}
+
+/// A play by which an end stores a word. It adds exactly one event to the end's record, which names the store, so no
+/// store is missing from the record.
+pub trait EndStore<E: EndEvent<D, C, R>, D, C, R: Direction<D, C>>: Play<
+    Buf,
+    View<DriverEvent<D>, ControllerEvent<C>>,
+> {
+    ghost use Rattle.std.specs.Prelude.{ℕ};
+    ghost use Rattle.atomic_table.specs.Table.{Step};
+    ghost use Rattle.buffer_pool.specs.Buffer.{Buffer};
+    ghost use Rattle.shared_ring.specs.declared.events.DriverEvent.{DriverEvent};
+    ghost use Rattle.shared_ring.specs.declared.events.ControllerEvent.{ControllerEvent};
+    ghost use Rattle.shared_ring.specs.Accesses.{Store};
+    ghost use Rattle.shared_ring.specs.Plays.{Seated, Counts};
+
+    ghost counts: { (st : Step Buffer) (m : Seated (DriverEvent D) (ControllerEvent C)) (r : ℕ) (m' : Seated (DriverEvent D) (ControllerEvent C)) → Self.then st m r m' → Counts E.whose Store st m r m' };
 }
 
 /// A store.
@@ -63,7 +81,7 @@ impl<D, C, R: Direction<D, C>, E: EndEvent<D, C, R>, P: OwnStep<E>> Play<
     ghost then = { stores E.whose P.event };
 }
 
-impl<D, C, R: Direction<D, C>, E: EndEvent<D, C, R>, P: OwnStep<E>> EndPlay<E, D, C, R>
+impl<D, C, R: Direction<D, C>, E: EndEvent<D, C, R>, P: OwnStep<E>> EndStore<E, D, C, R>
     for Stores<P, E, R> {
     ghost use Rattle.shared_ring.specs.Counting.{counts};
 
@@ -82,27 +100,48 @@ impl<D, C, R: Direction<D, C>, E: EndEvent<D, C, R>, P: OwnStep<E>> Play<
     ghost then = { Loads E.whose P.event P.tells };
 }
 
-impl<D, C, R: Direction<D, C>, E: EndEvent<D, C, R>, P: OwnStep<E>> EndPlay<E, D, C, R>
+impl<D, C, R: Direction<D, C>, E: EndEvent<D, C, R>, P: OwnStep<E>> EndLoad<E, D, C, R>
     for Loads<P, E, R> {
     ghost use Rattle.shared_ring.specs.Counting.{counts};
 
     ghost counts = { λ st m r m' t. counts t.adds };
 }
 
-/// A load or store by which the seat takes the slot of its place.
+/// A load by which the seat takes the slot of its place.
 pub struct Takes<P, E, R>(PhantomData<(P, E, R)>);
 
 impl<D, C, R: Direction<D, C>, E: EndEvent<D, C, R>, P: OwnStep<E>> Play<
     Buf,
     View<DriverEvent<D>, ControllerEvent<C>>,
 > for Takes<P, E, R> {
+    ghost use Rattle.shared_ring.specs.Accesses.{Load};
     ghost use Rattle.shared_ring.specs.Plays.{Takes};
 
-    ghost then = { Takes E.whose P.event P.tells };
+    ghost then = { Takes E.whose P.event P.tells Load };
 }
 
-impl<D, C, R: Direction<D, C>, E: EndEvent<D, C, R>, P: OwnStep<E>> EndPlay<E, D, C, R>
+impl<D, C, R: Direction<D, C>, E: EndEvent<D, C, R>, P: OwnStep<E>> EndLoad<E, D, C, R>
     for Takes<P, E, R> {
+    ghost use Rattle.shared_ring.specs.Counting.{counts};
+
+    ghost counts = { λ st m r m' t. counts t.adds };
+}
+
+/// A store by which the seat takes the slot of its place.
+pub struct Clears<P, E, R>(PhantomData<(P, E, R)>);
+
+impl<D, C, R: Direction<D, C>, E: EndEvent<D, C, R>, P: OwnStep<E>> Play<
+    Buf,
+    View<DriverEvent<D>, ControllerEvent<C>>,
+> for Clears<P, E, R> {
+    ghost use Rattle.shared_ring.specs.Accesses.{Store};
+    ghost use Rattle.shared_ring.specs.Plays.{Takes};
+
+    ghost then = { Takes E.whose P.event P.tells Store };
+}
+
+impl<D, C, R: Direction<D, C>, E: EndEvent<D, C, R>, P: OwnStep<E>> EndStore<E, D, C, R>
+    for Clears<P, E, R> {
     ghost use Rattle.shared_ring.specs.Counting.{counts};
 
     ghost counts = { λ st m r m' t. counts t.adds };
@@ -120,7 +159,7 @@ impl<D, C, R: Direction<D, C>, E: EndEvent<D, C, R>, P: OwnTake<E>> Play<
     ghost then = { Finds E.whose P.event P.tells P.missed P.done };
 }
 
-impl<D, C, R: Direction<D, C>, E: EndEvent<D, C, R>, P: OwnTake<E>> EndPlay<E, D, C, R>
+impl<D, C, R: Direction<D, C>, E: EndEvent<D, C, R>, P: OwnTake<E>> EndLoad<E, D, C, R>
     for Finds<P, E, R> {
     ghost use Rattle.shared_ring.specs.Counting.{finding_counts};
 
@@ -139,7 +178,7 @@ impl<D, C, R: Direction<D, C>, E: EndEvent<D, C, R>, P: OwnStep<E>> Play<
     ghost then = { gives E.whose P.event };
 }
 
-impl<D, C, R: Direction<D, C>, E: EndEvent<D, C, R>, P: OwnStep<E>> EndPlay<E, D, C, R>
+impl<D, C, R: Direction<D, C>, E: EndEvent<D, C, R>, P: OwnStep<E>> EndStore<E, D, C, R>
     for Gives<P, E, R> {
     ghost use Rattle.shared_ring.specs.Counting.{counts};
 

@@ -22,7 +22,7 @@ use Rattle.shared_ring.specs.declared.events.DriverEvent.TheVariants as driver
 use Rattle.shared_ring.specs.Directions.{Agrees}
 use Rattle.shared_ring.specs.Lies.{driven}
 use Rattle.shared_ring.specs.Own.{MayLoad, MayClear, MayEnd, MayStore, MayGive, SameOut}
-use Rattle.shared_ring.specs.Accesses.{access}
+use Rattle.shared_ring.specs.Accesses.{load}
 use Rattle.shared_ring.specs.Forms.{drive, driver_access}
 use Rattle.shared_ring.specs.Tables.{words_of}
 use Rattle.shared_ring.proofs.Standing.{low}
@@ -50,8 +50,8 @@ seen-same : (d : TxDriven) (place r : ℕ) (b : Bool) → SameOut d (drive tx d 
 seen-same d place r true = record { posted = refl; given = refl; reclaimed = refl }
 seen-same d place r false = record { posted = refl; given = refl; reclaimed = refl }
 
--- and names its word, and what it found there
-seen-names : (n place r : ℕ) (b : Bool) → driver_access tx n (driver.Own (if b then SawReport place r else NoReport place r)) ≡ access place r
+-- and names its load
+seen-names : (n place r : ℕ) (b : Bool) → driver_access tx n (driver.Own (if b then SawReport place r else NoReport place r)) ≡ load place r
 seen-names n place r true = refl
 seen-names n place r false = refl
 

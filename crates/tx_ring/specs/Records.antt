@@ -10,7 +10,7 @@ use Rattle.ring_model.specs.transmit.Ring.{new_posting}
 use Rattle.shared_ring.specs.declared.events.DriverEvent.{DriverEvent}
 use Rattle.shared_ring.specs.declared.events.ControllerEvent.{ControllerEvent}
 use Rattle.shared_ring.specs.declared.events.ControllerEvent.TheVariants as controller
-use Rattle.shared_ring.specs.Accesses.{Access, access}
+use Rattle.shared_ring.specs.Accesses.{Access, load, store}
 use Rattle.shared_ring.specs.Forms.{Reading}
 use Rattle.shared_ring.specs.Records as shared
 use Rattle.shared_ring.specs.Records.{Driven, Controlled, undriven, uncontrolled}
@@ -58,17 +58,17 @@ abbrev pub control_own : TxControlled → TxControllerOwn → TxControlled
 control_own c (Sent head word b) = record c { served = c.served ++ posting_of word b ∷ []; held = None; head = head; barred = rs_of word }
 control_own c (Reported place word) = record c { barred = false }
 
--- The word that a step loads or stores in a ring of `n` places, and the value that it finds or stores there.
+-- The access that a step makes in a ring of `n` places.
 abbrev pub driver_names : ℕ → TxDriverOwn → Access
-driver_names n (NoReport place word) = access place word
-driver_names n (SawReport place word) = access place word
-driver_names n (Cleaned place b) = access place 0
-driver_names n EndedEpoch = access (tail_index n) 0
-driver_names n ClearedReport = access (report_index n) 0
+driver_names n (NoReport place word) = load place word
+driver_names n (SawReport place word) = load place word
+driver_names n (Cleaned place b) = store place 0
+driver_names n EndedEpoch = store (tail_index n) 0
+driver_names n ClearedReport = store (report_index n) 0
 
 abbrev pub controller_names : ℕ → TxControllerOwn → Access
-controller_names n (Sent head word b) = access (head_index n) head
-controller_names n (Reported place word) = access place word
+controller_names n (Sent head word b) = store (head_index n) head
+controller_names n (Reported place word) = store place word
 
 abbrev pub control : ℕ → TxControlled → ControllerStep → TxControlled
 control n = shared.control n control_own

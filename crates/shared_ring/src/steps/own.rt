@@ -10,7 +10,7 @@ use super::{EndSeat, Ring};
 use crate::accesses::{load, store};
 use crate::direction::{Direction, OwnStep, OwnTake};
 use crate::events::{ControllerEvent, DriverEvent};
-use crate::plays::{Finds, Gives, Loads, Stores, Takes};
+use crate::plays::{Clears, Finds, Gives, Loads, Stores};
 use crate::slots::{put_in, take_out};
 use atomic_table::Seat;
 use buffer_pool::Buf;
@@ -54,7 +54,7 @@ impl<D, C, R: Direction<D, C>> EndSeat<DriverEvent<D>, D, C, R> {
         ensures told { P.tells self.old.table.slots self.old.events place 0 result }
     {
         let place = place as usize;
-        store::<Takes<P, _, R>, _, _, _, _>(&ring.table, &mut self.seat, place, 0);
+        store::<Clears<P, _, R>, _, _, _, _>(&ring.table, &mut self.seat, place, 0);
         let buf = take_out(&ring.table, &mut self.seat, place);
         self.seat.turn();
         buf
