@@ -40,10 +40,9 @@ may_store c = is_serving (controller_state c) && not (is_quiet c)
 abbrev pub needed : Receiving → Bytes → ℕ
 needed r f = piece_count r.bsize (length f)
 
--- A4 and A5: the next descriptor was fetched, and its buffer written back with the segment's bytes.
+-- A4 and A5: the next descriptor was fetched as 0, and its buffer written back with the segment's bytes.
 pub record StoredSegment (old : ControllerSide) (s : Segment Bytes) (new : ControllerSide) : Type 0 where
-  pub word : ℕ
-  pub step : new ≡ controller_grown (controller_grown old (Fetched (serve_place old) word (buffer s.number [])))
+  pub step : new ≡ controller_grown (controller_grown old (Fetched (serve_place old) 0 (buffer s.number [])))
       (Own (WroteBack (serve_place old) (rx_word (length s.payload) s.eop) (buffer s.number s.payload)))
   pub grew : controller_record new ≡ record (controller_record old) { served = stored old ++ s ∷ []; held = None }
 

@@ -1,5 +1,5 @@
 -- Reclaiming the buffers of a disabled queue, in either direction.
-use Rattle.std.specs.Prelude.{◌≡◌, ℕ, ◌+◌, List, ◌++◌, length, map, drop, reverse, Option, Some, None, slice_get}
+use Rattle.std.specs.Prelude.{◌≡◌, ℕ, ◌+◌, List, [], ◌∷◌, ◌++◌, length, map, drop, reverse, Option, Some, None, slice_get}
 use Rattle.buffer_pool.specs.Buffer.{Buffer, buffer}
 use Rattle.shared_ring.specs.declared.events.DriverEvent.TheVariants as driver
 use Rattle.shared_ring.specs.Calls.{NoneOut}
@@ -12,9 +12,24 @@ module _ {Ring Posted Served Given D C : Type 0} {form : Form Ring Posted Served
   abbrev pub out_of : (Posted → ℕ) → DriverSide form → List ℕ
   out_of number d = map number (drop (returned d) (posted d))
 
-  -- The oldest buffers that were out were reclaimed one after another and put into the stash.
+  -- The end after these buffers were reclaimed one after another, each from the oldest place that is out.
+  abbrev pub with_reclaimed : List Buffer → DriverSide form → DriverSide form
+  with_reclaimed [] d = d
+  with_reclaimed (b ∷ bs) d = with_reclaimed bs (driver_grown d (driver.Reclaimed (next_place d) b))
+
+  -- This buffer is that of the posting which is `k` places after the oldest that is out.
+  pub record WasOut (d : DriverSide form) (k : ℕ) (buf : Buffer) : Type 0 where
+    pub item : Posted
+    pub there : slice_get (posted d) (returned d + k) ≡ Some item
+    pub is_of : form.IsOf item buf
+
+  -- Exactly the oldest buffers that were out were reclaimed one after another and put into the stash.
   pub record CameBack (number : Posted → ℕ) (old : DriverSide form) (had : List ℕ) (new : DriverSide form) (has : List ℕ) : Type 0 where
+    pub bufs : List Buffer
+    pub steps : new ≡ with_reclaimed bufs old
+    pub oldest : (k : ℕ) (b : Buffer) → slice_get bufs k ≡ Some b → WasOut old k b
     pub numbers : List ℕ
+    pub numbers_are : numbers ≡ map (λ b. b.number) bufs
     pub runs : Runs is_reclaim old new
     pub did : driver_record new ≡ record (driver_record old) { reclaimed = reclaimed old + length numbers }
     pub out : out_of number old ≡ numbers ++ out_of number new

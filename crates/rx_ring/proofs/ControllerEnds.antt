@@ -51,9 +51,8 @@ module _ (c : ControllerSide) (at : ControllerPlaces) (head : ℕ) (finished : B
 
   pub fetched : (new : ControllerSide) (buf : Buffer) (word : ℕ) → CameOut c at.serve buf word new → Fetched now buf new
   fetched new buf word f = subst (λ (s : ControllerSide). Fetched s buf new) was (record {
-    word = word;
-    step = f.step ∙ ap (λ (p : ℕ). controller_grown c (controller.Fetched p word buf)) h.serve_is;
-    empty = f.fetched;
+    step = f.step ∙ ap (λ (w : ℕ). controller_grown c (controller.Fetched at.serve w buf)) f.fetched.0 ∙ ap (λ (p : ℕ). controller_grown c (controller.Fetched p 0 buf)) h.serve_is;
+    empty = f.fetched.1;
     same = record-after c new (controller.Fetched at.serve word buf) f.step;
   })
 

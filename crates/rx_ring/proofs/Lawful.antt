@@ -2,7 +2,7 @@
 use Rattle.std.proofs.Common.{◌≡◌, ℕ, ◌+◌, ◌%◌, ◌<◌, ◌≤◌, Bool, true, false, not, List, [], ◌∷◌, ◌++◌, length, set, Option, Some, None, sym, refl, ap, ◌∙◌, subst, replicate, arith, mod-lt}
 use Rattle.std.specs.Prelude.{slice_get, slice_index, slice_set, ◌==◌}
 use Rattle.std.proofs.lemmas.Bool.{and_parts, and_from, eq-eqb, both_ways, true≢false, false≢true}
-use Rattle.std.proofs.lemmas.Option.{none-some, same_Some, slice_get_within}
+use Rattle.std.proofs.lemmas.Option.{none-some, same_Some, slice_get_within, slice_get_past}
 use mathlib.Core.Option as maybe
 use mathlib.Core.Option.{some, none}
 use lib.ListN.{get_elem?}
@@ -22,7 +22,7 @@ use Rattle.ring_laws.specs.Rings.{rx_lawful}
 use Rattle.ring_laws.specs.Lists.{next_number, number_at}
 use Rattle.ring_laws.specs.Frames.{follows_next}
 use Rattle.ring_laws.specs.States.{live_unanswered, stopped_answered, answered_closed, stopped_full}
-use Rattle.ring_laws.specs.Queues.{shook, fetch_facts, held_below, answered_over, answered_unheld}
+use Rattle.ring_laws.specs.Queues.{shook, fetch_facts, held_below, returned_served, answered_over, answered_unheld}
 use Rattle.shared_ring.specs.declared.events.DriverEvent.TheVariants as driver
 use Rattle.shared_ring.specs.declared.events.ControllerEvent.TheVariants as controller
 use Rattle.shared_ring.specs.Directions.{IsDirection, DriverMay, ControllerMay, Agrees, TakesOut, Fetches}
@@ -241,7 +241,11 @@ module _ (n : ℕ) (mode : Completion) (ok : mode ≡ Status) (q : RxRing Bytes)
         buf = buffer (slice_index q.ledger.posted (served_count q.queue)) [];
         home = home-full homes p (buffer (slice_index q.ledger.posted (served_count q.queue)) [])
             (ap (home_at homes) spot ∙ fetch_lies says lies_there n ends_segment q.queue k.queue (slice_index words) (home_at homes) i t.0 ∙ is);
-        fetched = refl;
+        fetched = (
+          ap (slice_index words) spot ∙ i.words (served_count q.queue) (returned_served n ends_segment q.queue k.queue there) f.2
+              ∙ ap (says (served_count q.queue) (slice_get q.ledger.posted (served_count q.queue))) (slice_get_past q.ledger.served (served_count q.queue) (omega arith)),
+          refl,
+        );
         agrees = lie (rx_changed q rx.Fetch) ds (cs ++ controller.Fetched p (slice_index words p) (buffer (slice_index q.ledger.posted (served_count q.queue)) []) ∷ []) words (slice_set homes p none)
             (fetch-lies n q ds cs words homes pos l p (slice_index words p) (buffer (slice_index q.ledger.posted (served_count q.queue)) []) spot there (unheld-there unheld) more still is);
       }

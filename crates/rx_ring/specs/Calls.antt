@@ -113,10 +113,9 @@ pub record IsEndOf (n : ℕ) (x : RxDriven) (k : Knowing) (at : DriverPlaces) : 
 abbrev pub IsDriverEnd : DriverSide → DriverPlaces → Type 0
 IsDriverEnd d at = IsEndOf (driver_size d) (driver_record d) (known_of d) at
 
--- A4: the next descriptor was loaded, and this empty buffer came out of its slot.
+-- A4: the next descriptor was loaded as 0, and this empty buffer came out of its slot.
 pub record Fetched (old : ControllerSide) (buf : Buffer) (new : ControllerSide) : Type 0 where
-  pub word : ℕ
-  pub step : new ≡ controller_grown old (controller.Fetched (serve_place old) word buf)
+  pub step : new ≡ controller_grown old (controller.Fetched (serve_place old) 0 buf)
   pub empty : buf ≡ buffer buf.number []
   pub same : controller_record new ≡ record (controller_record old) { held = Some buf }
 

@@ -31,7 +31,7 @@ pub record RxLies (n : ℕ) (mode : Completion) (q : RxRing Bytes) (ds : List Dr
   pub reports : mode ≡ Status
   pub lies : LiesAs n q ds cs words homes
 
--- An empty buffer is posted, and comes back with its number.
+-- An empty buffer is posted with a descriptor of 0, is fetched so, and comes back with its number.
 abbrev pub rx : Form (RxRing Bytes) ℕ (Segment Bytes) (Segment Bytes) RxDriverOwn RxControllerOwn
 rx = record {
   reading = reading;
@@ -41,7 +41,7 @@ rx = record {
   MayPublish = λ xs. Unit {0};
   MayClearTail = λ mode. Unit {0};
   MayDisable = λ c. ends_frame ends_segment true c.served ≡ true;
-  IsFetched = λ n c word b. b ≡ buffer b.number [];
+  IsFetched = λ n c word b. (word ≡ 0) × (b ≡ buffer b.number []);
   IsOf = λ k b. (k ≡ b.number) × (b ≡ buffer b.number b.bytes);
   Lies = RxLies;
   AreOf = AreOf;

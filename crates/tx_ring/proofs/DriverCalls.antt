@@ -113,6 +113,7 @@ module _ (d : DriverSide) (at : DriverPlaces) (seen done unseen : ℕ) (whole : 
     head = head;
     step = step;
     same = record-after d new (driver.LoadedHead head) step;
+    known = known-after d new (driver.LoadedHead head) step;
     told = ap (left_at new) (ap (λ (k : Knowing). k.head) (known-after d new (driver.LoadedHead head) step)) ∙ ap Some (sym counted);
   })
     where
@@ -170,12 +171,17 @@ module _ (d : DriverSide) (at : DriverPlaces) (seen done unseen : ℕ) (whole : 
           (end-report (driver_size d) (driver_record d) (known_of d) at seen done unseen whole asks passed h ahead seen' below-posted
           (f ∙ ap (λ (j : ℕ). if (j + 1) == driver_size d then 0 else (j + 1)) at-place ∙ next_place-of (driver_size d) (seen_reported d + ahead) (omega arith)))
 
+      known-reported : (l : Looked d new true) → known_of new ≡ record (known_of d) { seen = l.item + 1 }
+      known-reported l = known-after d new (driver.Own (SawReport (report_word (driver_size d) d.completion l.item) l.word)) (l.report refl) ∙ known-report l
+          ∙ ap (λ (j : ℕ). record (known_of d) { seen = j + 1 }) (sym (item-is-it l))
+
       reported-it : (l : Looked d new true) → SawReported d new
       reported-it l = record {
         live = on-live;
         looked = l;
         same = record-after d new (driver.Own (SawReport (report_word (driver_size d) d.completion l.item) l.word)) (l.report refl);
-        seen = ap (λ (k : Knowing). k.seen) (known-after d new (driver.Own (SawReport (report_word (driver_size d) d.completion l.item) l.word)) (l.report refl) ∙ known-report l) ∙ ap (λ (j : ℕ). j + 1) (sym (item-is-it l));
+        known = known-reported l;
+        seen = ap (λ (k : Knowing). k.seen) (known-reported l);
       }
 
       pub saw-report : (b : Bool) → b ≡ true → Looked d new b → SawReported now new

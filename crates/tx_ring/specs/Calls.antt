@@ -79,6 +79,7 @@ pub record SawReported (old new : DriverSide) : Type 0 where
   pub live : is_live (driver_state old) ≡ true
   pub looked : Looked old new true
   pub same : driver_record new ≡ driver_record old
+  pub known : known_of new ≡ record (known_of old) { seen = looked.item + 1 }
   pub seen : seen_reported new ≡ looked.item + 1
 
 -- B7: the oldest outstanding report is not made yet.
@@ -111,6 +112,7 @@ pub record FoundLeft (old : DriverSide) (left : ℕ) (new : DriverSide) : Type 0
   pub head : ℕ
   pub step : new ≡ driver_grown old (driver.LoadedHead head)
   pub same : driver_record new ≡ driver_record old
+  pub known : known_of new ≡ record (known_of old) { head = Some head }
   pub told : told_left new ≡ Some left
 
 -- The oldest buffer that was out came back, as it was posted.

@@ -152,7 +152,8 @@ impl TxDriverEnd {
     #[inline]
     pub fn poll_report(&mut self, ring: &TxRing) -> bool
         requires own { self.old.table ≡ ring.now }
-        ensures { Polled self.old result self.new }
+        ensures found { Polled self.old result self.new }
+        ensures own { self.new.table ≡ self.old.table }
     {
         if !self.at.state.is_live() {
             return false;
@@ -206,7 +207,8 @@ impl TxDriverEnd {
     pub fn reclaim(&mut self, ring: &TxRing) -> Option<Buf>
         requires own { self.old.table ≡ ring.now }
         requires stopped { is_stopped (driver_state self.old) ≡ true }
-        ensures { Reclaimed self.old result self.new }
+        ensures back { Reclaimed self.old result self.new }
+        ensures own { self.new.table ≡ self.old.table }
     {
         self.seat.reclaim_next(&ring.0, &mut self.at)
     }

@@ -12,10 +12,9 @@ use Rattle.tx_ring.specs.Ends.{DriverSide, driver_size, driver_record, posted, c
 use Rattle.tx_ring.specs.Records.{Posting, TxDriven}
 use Rattle.shared_ring.proofs.Posting.{record-after}
 use Rattle.driver.specs.Reclaiming.{out_of}
-use Rattle.driver.specs.Steps.{is_post}
 use Rattle.driver.specs.transmit.Batches.{Batched, CleanedAll, PostedFront, published_after}
 use Rattle.driver.specs.transmit.Frames.{postings_of, frame_of, frames_of, numbers_in, is_none, segment_count, NeedsMore}
-use Rattle.driver.specs.transmit.Going.{WentOn}
+use Rattle.driver.specs.transmit.Going.{PostedAll}
 use Rattle.driver.specs.transmit.Transmitter.{room_of, sending}
 use Rattle.driver.proofs.transmit.Fronts.{postings_of-length}
 use Rattle.driver.proofs.transmit.Going.{runs-known}
@@ -44,7 +43,7 @@ numbers_posted every count (p ∷ ps) =
     ∙ ap (λ (l : List ℕ). map (λ b. b.number) p ++ l) (numbers_posted every (count + 1) ps))
 
 module _ (every before : ℕ) (had : List (List Buffer)) (old new : DriverSide) (has : List (List Buffer)) (room : ℕ) where
-  room_left : (count : ℕ) (filled : DriverSide) → WentOn is_post old (frames_of every before (take count had)) [] filled → new ≡ driver_grown filled (Published (fill_place filled))
+  room_left : (count : ℕ) (filled : DriverSide) → PostedAll old (frames_of every before (take count had)) filled → new ≡ driver_grown filled (Published (fill_place filled))
       → driver_record new ≡ record (driver_record filled) { published = length (posted filled) } → room + length (posted old) + 1 ≡ driver_size old + returned old
       → room_of new ≡ room - segment_count (take count had)
   room_left count filled went step same room_is =
@@ -59,7 +58,7 @@ module _ (every before : ℕ) (had : List (List Buffer)) (old new : DriverSide) 
     few_back : returned old ≤ length (posted old)
     few_back = omega (arith, most, room_is)
 
-    more_out : (count : ℕ) (filled : DriverSide) → WentOn is_post old (frames_of every before (take count had)) [] filled → driver_record new ≡ record (driver_record filled) { published = length (posted filled) }
+    more_out : (count : ℕ) (filled : DriverSide) → PostedAll old (frames_of every before (take count had)) filled → driver_record new ≡ record (driver_record filled) { published = length (posted filled) }
         → out_of number_of_posting new ≡ out_of number_of_posting old ++ numbers_in (take count had)
     more_out count filled went same =
         let fr = frames_of every before (take count had) in
@@ -69,7 +68,7 @@ module _ (every before : ℕ) (had : List (List Buffer)) (old new : DriverSide) 
         ∙ (map-append number_of_posting (drop (returned old) (posted old)) fr
         ∙ ap (λ l. out_of number_of_posting old ++ l) (numbers_posted every before (take count had)))))
 
-  pub posted_front : (count : ℕ) (filled : DriverSide) → ¬ (count ≡ 0) → WentOn is_post old (frames_of every before (take count had)) [] filled → new ≡ driver_grown filled (Published (fill_place filled))
+  pub posted_front : (count : ℕ) (filled : DriverSide) → ¬ (count ≡ 0) → PostedAll old (frames_of every before (take count had)) filled → new ≡ driver_grown filled (Published (fill_place filled))
       → driver_record new ≡ record (driver_record filled) { published = length (posted filled) } → room + length (posted old) + 1 ≡ driver_size old + returned old
       → count ≤ length had → has ≡ drop count had → is_on (driver_state old) ≡ true → NeedsMore (room - segment_count (take count had)) (drop count had)
       → room < driver_size old → known_of new ≡ known_of filled → PostedFront every before count old had new has

@@ -10,18 +10,18 @@ use Rattle.ring_laws.specs.Rings.{first_report-above}
 use Rattle.shared_ring.specs.declared.events.DriverEvent.TheVariants.{Own}
 use Rattle.tx_ring.specs.declared.events.TxDriverOwn.TheVariants.{NoReport, SawReport, Cleaned}
 use Rattle.tx_ring.specs.Calls.{CleanedOne, SawReported, SawUnreported, Polled}
-use Rattle.tx_ring.specs.Ends.{DriverSide, driver_size, driver_record, driver_state, posted, cleaned, reclaimed, returned, known_of, seen_reported, outstanding, next_place}
+use Rattle.tx_ring.specs.Ends.{DriverSide, driver_size, driver_record, driver_state, posted, cleaned, reclaimed, returned, known_of, seen_reported, outstanding, next_place, driver_grown}
 use Rattle.tx_ring.specs.Plays.{report_word}
-use Rattle.tx_ring.specs.Records.{DriverStep, Knowing, TxDriven, seen_after}
+use Rattle.tx_ring.specs.Records.{DriverStep, Knowing, Posting, TxDriven, seen_after}
 use Rattle.shared_ring.proofs.Posting.{known-after}
 use Rattle.tx_ring.proofs.Reported.{first_report-asks}
 use Rattle.driver.specs.Reclaiming.{out_of}
-use Rattle.driver.specs.transmit.Going.{WentOn, is_clean, is_cleaning}
-use Rattle.driver.specs.transmit.Cleaning.{CleanedBy, CleanedUp, Cleans, FilledUp, FoundNone, FoundOne}
+use Rattle.driver.specs.transmit.Going.{WentOn, is_clean, is_cleaning, with_cleaned}
+use Rattle.driver.specs.transmit.Cleaning.{CleanedBy, CleanedOff, CleanedUp, Cleans, FilledUp, FoundNone, FoundOne}
 use Rattle.driver.specs.transmit.Batches.{CleanedInto, CleanedAll, FoundNoMore}
 use Rattle.driver.proofs.Running.{runs-one}
 use Rattle.driver.proofs.Returning.{from_item}
-use Rattle.driver.proofs.transmit.Going.{stood, and_on, same_lists, with_lists, went-more}
+use Rattle.driver.proofs.transmit.Going.{stood, and_on, same_lists, with_lists, went-more, with_cleaned-append}
 
 -- B8 is a step of cleaning
 clean-cleaning : (e : DriverStep) → is_clean e ≡ true → is_cleaning e ≡ true
@@ -53,17 +53,17 @@ module _ {kinds : DriverStep → Bool} where
 pub into_wider : {a b : DriverSide} {s t : List ℕ} → CleanedBy is_clean a s b t → CleanedInto a s b t
 into_wider p = record { numbers = p.numbers; went = went-more clean-cleaning p.went; out = p.out; stashed = p.stashed }
 
--- a buffer is cleaned, and put into the stash
-pub into_one : (old new : DriverSide) (buf : Buffer) (s t : List ℕ) → reclaimed old ≡ 0 → CleanedOne old buf new → t ≡ buf.number ∷ s → CleanedBy is_clean old s new t
-into_one old new buf s t none_back one put = record {
-  numbers = buf.number ∷ [];
-  went = record {
-    runs = runs-one is_clean old new (Own (Cleaned (next_place old) buf)) one.step refl;
-    did = one.same ∙ with_lists (driver_record old) (posted old) (posted old ++ []) (cleaned old ++ buf.number ∷ []) (cleaned old ++ buf.number ∷ []) (sym (append-nil (posted old))) refl;
-    head = ap (λ (k : Knowing). k.head) one.known;
-  };
-  out = out-one;
-  stashed = put;
+-- Exactly the oldest, one after another
+pub off_none : (d : DriverSide) → CleanedOff d d
+off_none d = record { items = []; oldest = refl; steps = refl }
+
+abbrev pub off_one : (old new : DriverSide) (buf : Buffer) → reclaimed old ≡ 0 → CleanedOne old buf new → CleanedOff old new
+off_one old new buf none_back one = record {
+  items = one.item ∷ [];
+  oldest = from_item (posted old) (returned old) one.item item-is
+      ∙ (ap (λ (k : ℕ). one.item ∷ drop k (posted old)) after
+      ∙ ap (λ (x : TxDriven). one.item ∷ drop (returned new) x.posted) (sym one.same));
+  steps = one.step ∙ ap (λ (b : Buffer). driver_grown old (Own (Cleaned (next_place old) b))) one.is;
 }
   where
     before : returned old ≡ length (cleaned old)
@@ -75,11 +75,25 @@ into_one old new buf s t none_back one put = record {
     item-is : slice_get (posted old) (returned old) ≡ Some one.item
     item-is = ap (slice_get (posted old)) before ∙ one.there
 
-    out-one : out_of number_of_posting old ≡ buf.number ∷ out_of number_of_posting new
-    out-one = ap (map number_of_posting) (from_item (posted old) (returned old) one.item item-is)
-        ∙ (ap (λ (k : ℕ). k ∷ map number_of_posting (drop (returned old + 1) (posted old))) (sym (ap (λ (b : Buffer). b.number) one.is))
-        ∙ (ap (λ (k : ℕ). buf.number ∷ map number_of_posting (drop k (posted old))) after
-        ∙ ap (λ (x : TxDriven). buf.number ∷ map number_of_posting (drop (returned new) x.posted)) (sym one.same)))
+pub off_more : {a b c : DriverSide} → CleanedOff a b → CleanedOff b c → CleanedOff a c
+off_more {a} {b} {c} p q = record {
+  items = p.items ++ q.items;
+  oldest = p.oldest ∙ ap (λ (l : List Posting). p.items ++ l) q.oldest ∙ sym (append_assoc p.items q.items (drop (returned c) (posted c)));
+  steps = q.steps ∙ ap (with_cleaned q.items) p.steps ∙ sym (with_cleaned-append p.items q.items a);
+}
+
+-- a buffer is cleaned, and put into the stash
+pub into_one : (old new : DriverSide) (buf : Buffer) (s t : List ℕ) → reclaimed old ≡ 0 → CleanedOne old buf new → t ≡ buf.number ∷ s → CleanedBy is_clean old s new t
+into_one old new buf s t none_back one put = record {
+  numbers = buf.number ∷ [];
+  went = record {
+    runs = runs-one is_clean old new (Own (Cleaned (next_place old) buf)) one.step refl;
+    did = one.same ∙ with_lists (driver_record old) (posted old) (posted old ++ []) (cleaned old ++ buf.number ∷ []) (cleaned old ++ buf.number ∷ []) (sym (append-nil (posted old))) refl;
+    head = ap (λ (k : Knowing). k.head) one.known;
+  };
+  out = let f = off_one old new buf none_back one in ap (map number_of_posting) f.oldest ∙ ap (λ (k : ℕ). k ∷ out_of number_of_posting new) (sym (ap (λ (b : Buffer). b.number) one.is));
+  stashed = put;
+}
 
 -- a load that shows no report
 pub found_none : (old new : DriverSide) → SawUnreported old new → WentOn is_cleaning old [] [] new

@@ -10,10 +10,9 @@ use Rattle.buffer_pool.specs.Packed.{IsPacket, bytes_of}
 use Rattle.ring_model.specs.transmit.Ring.{are_whole}
 use Rattle.tx_ring.specs.Ends.{DriverSide, posted}
 use Rattle.tx_ring.specs.Records.{Posting, TxDriven}
-use Rattle.driver.specs.Steps.{is_post}
 use Rattle.driver.specs.transmit.Frames.{frame_of, frames_of, postings_of, is_none, segment_count}
-use Rattle.driver.specs.transmit.Going.{WentOn}
-use Rattle.driver.proofs.transmit.Going.{stood, and_on}
+use Rattle.driver.specs.transmit.Going.{PostedAll}
+use Rattle.driver.proofs.transmit.Going.{none_posted_on, posted_on}
 
 -- the next count, modulo
 next_mod : (every a b : ℕ) → a % every ≡ b % every → (a + 1) % every ≡ (b + 1) % every
@@ -30,7 +29,7 @@ frames_of-same every a b (p ∷ ps) same =
 -- So far as the packets `rest` are not posted yet
 pub record FramesPosted (every before : ℕ) (packets : List (List Buffer)) (old : DriverSide) (frames : ℕ) (rest : List (List Buffer)) (now : DriverSide) : Type 0 where
   pub done : List Posting
-  pub went : WentOn is_post old done [] now
+  pub went : PostedAll old done now
   pub whole : are_whole (posted now) ≡ true
   pub all : done ++ frames_of every frames rest ≡ frames_of every before packets
   pub below : frames < every
@@ -42,7 +41,7 @@ pub none_posted : (every before : ℕ) (packets : List (List Buffer)) (old : Dri
     → FramesPosted every before packets old before packets old
 none_posted every before packets old whole below are = record {
   done = [];
-  went = stood old;
+  went = none_posted_on old;
   whole = whole;
   all = refl;
   below = below;
@@ -59,7 +58,7 @@ postings_of-length paylen rs (b ∷ c ∷ bs) = let rest = postings_of-length pa
 module _ {every before : ℕ} {packets : List (List Buffer)} {old now : DriverSide} {frames : ℕ} where
   -- one more frame
   pub one_posted : (p : List Buffer) (rest : List (List Buffer)) (frames' : ℕ) (rs : Bool) (new : DriverSide) → FramesPosted every before packets old frames (p ∷ rest) now
-      → frames' ≡ (frames + 1) % every → frames' < every → rs ≡ (frames' == 0 || is_none rest) → WentOn is_post now (frame_of rs p) [] new → are_whole (posted new) ≡ true
+      → frames' ≡ (frames + 1) % every → frames' < every → rs ≡ (frames' == 0 || is_none rest) → PostedAll now (frame_of rs p) new → are_whole (posted new) ≡ true
       → FramesPosted every before packets old frames' rest new
   one_posted p rest frames' rs new h next below rs_is went whole =
       let rs_as = rs_is ∙ ap (λ (n : ℕ). n == 0 || is_none rest) next in
@@ -69,7 +68,7 @@ module _ {every before : ℕ} {packets : List (List Buffer)} {old now : DriverSi
       let needs = h.needs in
       record {
         done = h.done ++ frame_of rs p;
-        went = and_on h.went went;
+        went = posted_on h.went went;
         whole = whole;
         all = append_assoc h.done (frame_of rs p) (frames_of every frames' rest)
             ∙ ap (λ (b : Bool). h.done ++ (frame_of b p ++ frames_of every frames' rest)) rs_as
@@ -83,8 +82,8 @@ module _ {every before : ℕ} {packets : List (List Buffer)} {old now : DriverSi
       }
 
   -- none is left
-  pub all_posted : (h : FramesPosted every before packets old frames [] now) → WentOn is_post old (frames_of every before packets) [] now
-  all_posted h = subst (λ (xs : List Posting). WentOn is_post old xs [] now) (sym (append-nil h.done) ∙ h.all) h.went
+  pub all_posted : (h : FramesPosted every before packets old frames [] now) → PostedAll old (frames_of every before packets) now
+  all_posted h = subst (λ (xs : List Posting). PostedAll old xs now) (sym (append-nil h.done) ∙ h.all) h.went
 
   pub all_counted : (h : FramesPosted every before packets old frames [] now) → frames ≡ (before + length packets) % every
   all_counted h = sym (mod-eq_of_lt h.below) ∙ ap (λ (n : ℕ). n % every) (let e : frames ≡ frames + 0 = omega arith in e) ∙ h.counted

@@ -3,12 +3,14 @@ use Rattle.std.proofs.Common.{◌≡◌, ℕ, Bool, true, List, [], ◌∷◌, �
 use Rattle.std.specs.Prelude.{All}
 use Rattle.std.proofs.lemmas.Bool.{false≢true}
 use Rattle.std.proofs.lemmas.List.Elements.{All-head, All-tail}
-use Rattle.shared_ring.specs.declared.events.DriverEvent.TheVariants.{Posted}
+use Rattle.shared_ring.specs.declared.events.DriverEvent.TheVariants.{Posted, Own}
 use Rattle.shared_ring.proofs.Posting.{known-after}
-use Rattle.tx_ring.specs.Ends.{DriverSide, driver_record, known_of, driver_grown}
+use Rattle.tx_ring.specs.declared.events.TxDriverOwn.TheVariants.{Cleaned}
+use Rattle.tx_ring.specs.Ends.{DriverSide, driver_record, known_of, fill_place, next_place, driver_grown}
 use Rattle.tx_ring.specs.Records.{DriverStep, Posting, TxDriven, knowing, know}
+use Rattle.tx_ring.specs.Rule.{filled, word_of}
 use Rattle.driver.specs.Steps.{Runs, is_post}
-use Rattle.driver.specs.transmit.Going.{WentOn}
+use Rattle.driver.specs.transmit.Going.{WentOn, PostedAll, with_posted, with_cleaned}
 use Rattle.driver.proofs.Running.{runs-none, runs-trans, runs-more}
 
 -- the record with other lists
@@ -38,6 +40,21 @@ module _ {kinds : DriverStep → Bool} where
 -- steps of some kinds are steps of more kinds
 pub went-more : {some more : DriverStep → Bool} {a b : DriverSide} {xs : List Posting} {us : List ℕ} → ((e : DriverStep) → some e ≡ true → more e ≡ true) → WentOn some a xs us b → WentOn more a xs us b
 went-more {some} {more} {a} {b} wider p = record { runs = runs-more some more a b wider p.runs; did = p.did; head = p.head }
+
+-- steps behind others
+pub with_posted-append : (xs ys : List Posting) (d : DriverSide) → with_posted (xs ++ ys) d ≡ with_posted ys (with_posted xs d)
+with_posted-append [] ys d = refl
+with_posted-append (p ∷ xs) ys d = with_posted-append xs ys (driver_grown d (Posted (fill_place d) (word_of p) (filled p)))
+
+pub with_cleaned-append : (xs ys : List Posting) (d : DriverSide) → with_cleaned (xs ++ ys) d ≡ with_cleaned ys (with_cleaned xs d)
+with_cleaned-append [] ys d = refl
+with_cleaned-append (p ∷ xs) ys d = with_cleaned-append xs ys (driver_grown d (Own (Cleaned (next_place d) (filled p))))
+
+pub none_posted_on : (d : DriverSide) → PostedAll d [] d
+none_posted_on d = record { steps = refl; went = stood d }
+
+pub posted_on : {a b c : DriverSide} {xs ys : List Posting} → PostedAll a xs b → PostedAll b ys c → PostedAll a (xs ++ ys) c
+posted_on {a} {b} {c} {xs} {ys} p q = record { steps = q.steps ∙ ap (with_posted ys) p.steps ∙ sym (with_posted-append xs ys a); went = and_on p.went q.went }
 
 -- posting teaches nothing
 post-known : (d : DriverSide) (e : DriverStep) → is_post e ≡ true → know (driver_record d) (known_of d) e ≡ known_of d

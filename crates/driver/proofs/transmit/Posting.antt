@@ -4,37 +4,47 @@ use Rattle.std.specs.Prelude.{All, slice_get}
 use Rattle.std.proofs.lemmas.Bool.{false≢true}
 use Rattle.std.proofs.lemmas.Option.{none-some}
 use Rattle.std.proofs.lemmas.List.Elements.{All-head, All-tail}
-use Rattle.buffer_pool.specs.Buffer.{Buffer}
+use Rattle.buffer_pool.specs.Buffer.{Buffer, buffer}
 use Rattle.buffer_pool.specs.Packed.{IsPacket, bytes_of}
 use Rattle.limits.specs.declared.profile.TheConstants.{BUFFER_BYTES}
 use Rattle.ring_model.specs.shared.Frames.{ends_frame, join, unfinished}
+use Rattle.ring_model.specs.transmit.Agreement.{tx_word}
 use Rattle.ring_model.specs.transmit.Frames.{MayFollow}
 use Rattle.ring_model.specs.transmit.Ring.{are_whole, carried, ends_posting}
 use Rattle.ring_laws.specs.Lists.{slice_get-snoc}
 use Rattle.ring_laws.specs.Frames.{unfinished-snoc, length-join-snoc}
 use Rattle.shared_ring.specs.declared.events.DriverEvent.TheVariants.{Posted}
 use Rattle.tx_ring.specs.Calls.{item_of}
-use Rattle.tx_ring.specs.Ends.{DriverSide, driver_size, driver_record, posted, cleaned, returned, known_of, driver_grown}
+use Rattle.tx_ring.specs.Ends.{DriverSide, driver_size, driver_record, posted, cleaned, returned, known_of, fill_place, driver_grown}
 use Rattle.tx_ring.specs.Records.{Posting, TxDriven, Knowing}
+use Rattle.tx_ring.specs.Rule.{filled, word_of}
 use Rattle.driver.specs.Steps.{is_post}
 use Rattle.driver.specs.transmit.Frames.{postings_of}
-use Rattle.driver.specs.transmit.Going.{WentOn}
+use Rattle.driver.specs.transmit.Going.{PostedAll, with_posted}
 use Rattle.driver.proofs.Running.{runs-one}
-use Rattle.driver.proofs.transmit.Going.{stood, and_on, with_lists}
+use Rattle.driver.proofs.transmit.Going.{none_posted_on, posted_on, with_lists}
 
 -- One posting more
-pub posted_one : (old new : DriverSide) (place word : ℕ) (b : Buffer) (x : Posting) → new ≡ driver_grown old (Posted place word b) → driver_record new ≡ record (driver_record old) { posted = posted old ++ x ∷ [] } → known_of new ≡ known_of old
-    → WentOn is_post old (x ∷ []) [] new
-posted_one old new place word b x step same known = record {
-  runs = runs-one is_post old new (Posted place word b) step refl;
-  did = same ∙ with_lists (driver_record old) (posted old ++ x ∷ []) (posted old ++ x ∷ []) (cleaned old) (cleaned old ++ []) refl (sym (append-nil (cleaned old)));
-  head = ap (λ (k : Knowing). k.head) known;
+pub posted_one : (old new : DriverSide) (x : Posting) → new ≡ with_posted (x ∷ []) old → driver_record new ≡ record (driver_record old) { posted = posted old ++ x ∷ [] } → known_of new ≡ known_of old
+    → PostedAll old (x ∷ []) new
+posted_one old new x step same known = record {
+  steps = step;
+  went = record {
+    runs = runs-one is_post old new (Posted (fill_place old) (word_of x) (filled x)) step refl;
+    did = same ∙ with_lists (driver_record old) (posted old ++ x ∷ []) (posted old ++ x ∷ []) (cleaned old) (cleaned old ++ []) refl (sym (append-nil (cleaned old)));
+    head = ap (λ (k : Knowing). k.head) known;
+  };
 }
+
+-- a call that posts a buffer makes the posting of its contents
+pub as_posted : (old : DriverSide) (b : Buffer) (new : DriverSide) (eop rs : Bool) (paylen : ℕ) → b ≡ buffer b.number b.bytes → new ≡ driver_grown old (Posted (fill_place old) (tx_word (length b.bytes) eop rs paylen) b)
+    → new ≡ with_posted (item_of b eop rs paylen ∷ []) old
+as_posted old b new eop rs paylen real step = step ∙ ap (λ (x : Buffer). driver_grown old (Posted (fill_place old) (tx_word (length b.bytes) eop rs paylen) x)) real
 
 -- A frame of which the segments `rest` are not posted yet
 pub record FrameBegun (paylen : ℕ) (rs : Bool) (packet : List Buffer) (old : DriverSide) (rest : List Buffer) (now : DriverSide) : Type 0 where
   pub begun : List Posting
-  pub went : WentOn is_post old begun [] now
+  pub went : PostedAll old begun now
   pub unfinished_is : unfinished carried (posted now) ≡ begun
   pub all : begun ++ postings_of paylen rs rest ≡ postings_of paylen rs packet
   pub count : length begun + length rest ≡ length packet
@@ -45,7 +55,7 @@ pub record FrameBegun (paylen : ℕ) (rs : Bool) (packet : List Buffer) (old : D
 pub begun_none : (paylen : ℕ) (rs : Bool) (packet : List Buffer) (old : DriverSide) → paylen ≡ length (bytes_of packet) → IsPacket packet → unfinished carried (posted old) ≡ [] → FrameBegun paylen rs packet old packet old
 begun_none paylen rs packet old paylen_is whole none = record {
   begun = [];
-  went = stood old;
+  went = none_posted_on old;
   unfinished_is = none;
   all = refl;
   count = omega arith;
@@ -114,10 +124,10 @@ module _ {paylen : ℕ} {rs : Bool} {packet : List Buffer} {old now : DriverSide
         }
 
   -- the next is posted
-  pub begun_more : (b c : Buffer) (bs : List Buffer) (new : DriverSide) (place word : ℕ) → FrameBegun paylen rs packet old (b ∷ c ∷ bs) now
-      → new ≡ driver_grown now (Posted place word b) → driver_record new ≡ record (driver_record now) { posted = posted now ++ item_of b false false paylen ∷ [] } → known_of new ≡ known_of now
+  pub begun_more : (b c : Buffer) (bs : List Buffer) (new : DriverSide) → FrameBegun paylen rs packet old (b ∷ c ∷ bs) now
+      → new ≡ with_posted (item_of b false false paylen ∷ []) now → driver_record new ≡ record (driver_record now) { posted = posted now ++ item_of b false false paylen ∷ [] } → known_of new ≡ known_of now
       → FrameBegun paylen rs packet old (c ∷ bs) new
-  begun_more b c bs new place word h step same known =
+  begun_more b c bs new h step same known =
       let x = item_of b false false paylen in
       let count = h.count in
       let bytes = h.bytes in
@@ -126,7 +136,7 @@ module _ {paylen : ℕ} {rs : Bool} {packet : List Buffer} {old now : DriverSide
       let split = length-append b.bytes (bytes_of (c ∷ bs)) in
       record {
         begun = h.begun ++ x ∷ [];
-        went = and_on h.went (posted_one now new place word b x step same known);
+        went = posted_on h.went (posted_one now new x step same known);
         unfinished_is = ap (λ (r : TxDriven). unfinished carried r.posted) same ∙ unfinished-snoc carried (posted now) x ∙ ap (λ (l : List Posting). l ++ x ∷ []) h.unfinished_is;
         all = append_assoc h.begun (x ∷ []) (postings_of paylen rs (c ∷ bs)) ∙ h.all;
         count = omega arith;
@@ -136,11 +146,11 @@ module _ {paylen : ℕ} {rs : Bool} {packet : List Buffer} {old now : DriverSide
       }
 
   -- the last is posted, and ends the frame
-  pub begun_last : (b : Buffer) (new : DriverSide) (place word : ℕ) → FrameBegun paylen rs packet old (b ∷ []) now
-      → new ≡ driver_grown now (Posted place word b) → driver_record new ≡ record (driver_record now) { posted = posted now ++ item_of b true rs paylen ∷ [] } → known_of new ≡ known_of now
-      → WentOn is_post old (postings_of paylen rs packet) [] new
-  begun_last b new place word h step same known =
-      subst (λ (xs : List Posting). WentOn is_post old xs [] new) h.all (and_on h.went (posted_one now new place word b (item_of b true rs paylen) step same known))
+  pub begun_last : (b : Buffer) (new : DriverSide) → FrameBegun paylen rs packet old (b ∷ []) now
+      → new ≡ with_posted (item_of b true rs paylen ∷ []) now → driver_record new ≡ record (driver_record now) { posted = posted now ++ item_of b true rs paylen ∷ [] } → known_of new ≡ known_of now
+      → PostedAll old (postings_of paylen rs packet) new
+  begun_last b new h step same known =
+      subst (λ (xs : List Posting). PostedAll old xs new) h.all (posted_on h.went (posted_one now new (item_of b true rs paylen) step same known))
 
 -- The same of a packet from which the first buffer was taken
 module _ {paylen : ℕ} {rs : Bool} {packet : List Buffer} {old now : DriverSide} (b : Buffer) where
@@ -159,16 +169,16 @@ module _ {paylen : ℕ} {rs : Bool} {packet : List Buffer} {old now : DriverSide
         subst (λ (l : List Posting). MayFollow (driver_size now) l (item_of b true rs paylen)) (sym g.unfinished_is) (may_end (driver_size now) whole paylen_is short b few g)
     last_follows rest (c ∷ bs) is none h = absurd (omega (arith, none))
 
-  module _ (new : DriverSide) (place word : ℕ) (step : new ≡ driver_grown now (Posted place word b)) (known : known_of new ≡ known_of now) where
-    pub next_posted : (rest after : List Buffer) → rest ≡ b ∷ after → 0 < length after → FrameBegun paylen rs packet old rest now
+  module _ (new : DriverSide) (known : known_of new ≡ known_of now) where
+    pub next_posted : (rest after : List Buffer) → rest ≡ b ∷ after → 0 < length after → FrameBegun paylen rs packet old rest now → new ≡ with_posted (item_of b false false paylen ∷ []) now
         → driver_record new ≡ record (driver_record now) { posted = posted now ++ item_of b false false paylen ∷ [] } → FrameBegun paylen rs packet old after new
-    next_posted rest [] is more h same = absurd (omega (arith, more))
-    next_posted rest (c ∷ bs) is more h same = begun_more b c bs new place word (subst (λ (l : List Buffer). FrameBegun paylen rs packet old l now) is h) step same known
+    next_posted rest [] is more h step same = absurd (omega (arith, more))
+    next_posted rest (c ∷ bs) is more h step same = begun_more b c bs new (subst (λ (l : List Buffer). FrameBegun paylen rs packet old l now) is h) step same known
 
-    pub last_posted : (rest after : List Buffer) → rest ≡ b ∷ after → length after ≡ 0 → FrameBegun paylen rs packet old rest now
-        → driver_record new ≡ record (driver_record now) { posted = posted now ++ item_of b true rs paylen ∷ [] } → WentOn is_post old (postings_of paylen rs packet) [] new
-    last_posted rest [] is none h same = begun_last b new place word (subst (λ (l : List Buffer). FrameBegun paylen rs packet old l now) is h) step same known
-    last_posted rest (c ∷ bs) is none h same = absurd (omega (arith, none))
+    pub last_posted : (rest after : List Buffer) → rest ≡ b ∷ after → length after ≡ 0 → FrameBegun paylen rs packet old rest now → new ≡ with_posted (item_of b true rs paylen ∷ []) now
+        → driver_record new ≡ record (driver_record now) { posted = posted now ++ item_of b true rs paylen ∷ [] } → PostedAll old (postings_of paylen rs packet) new
+    last_posted rest [] is none h step same = begun_last b new (subst (λ (l : List Buffer). FrameBegun paylen rs packet old l now) is h) step same known
+    last_posted rest (c ∷ bs) is none h step same = absurd (omega (arith, none))
 
 -- the last of some postings tells whether they end a frame
 ends-snoc : (whole : Bool) (xs : List Posting) (x : Posting) → ends_frame ends_posting whole (xs ++ x ∷ []) ≡ x.eop

@@ -8,10 +8,9 @@ use Rattle.shared_ring.specs.declared.events.DriverEvent.TheVariants.{Published}
 use Rattle.tx_ring.specs.Calls.{Polled}
 use Rattle.tx_ring.specs.Ends.{DriverSide, posted, published, cleaned, reclaimed, seen_reported, driver_state, known_of, fill_place, driver_grown}
 use Rattle.driver.specs.Reclaiming.{out_of}
-use Rattle.driver.specs.Steps.{is_post}
 use Rattle.driver.specs.transmit.Cleaning.{CleanedBy, Cleans}
 use Rattle.driver.specs.transmit.Frames.{frames_of, numbers_in, NeedsMore}
-use Rattle.driver.specs.transmit.Going.{WentOn, is_cleaning}
+use Rattle.driver.specs.transmit.Going.{WentOn, PostedAll, is_cleaning}
 use Rattle.driver.specs.transmit.Transmitter.{room_of, Sending}
 
 -- Buffers were cleaned and went into the stash in order. The only steps are cleaning and looking for reports.
@@ -46,7 +45,7 @@ published_after (suc k) d = driver_grown d (Published (fill_place d))
 -- stays for lack of room.
 pub record PostedFront (every frames count : ℕ) (old : DriverSide) (had : List (List Buffer)) (new : DriverSide) (has : List (List Buffer)) : Type 0 where
   pub filled : DriverSide
-  pub posting : WentOn is_post old (frames_of every frames (take count had)) [] filled
+  pub posting : PostedAll old (frames_of every frames (take count had)) filled
   pub out : out_of number_of_posting new ≡ out_of number_of_posting old ++ numbers_in (take count had)
   pub known : known_of new ≡ known_of old
   pub publishing : new ≡ published_after count filled

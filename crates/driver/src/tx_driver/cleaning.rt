@@ -3,7 +3,7 @@ ghost use Rattle.std.specs.Prelude.{◌≡◌, ◌⊎◌, true, length};
 ghost use Rattle.ring_model.specs.shared.Handshakes.{is_live};
 ghost use Rattle.tx_ring.specs.Ends.{cleaned, reclaimed, seen_reported, driver_state, known_of};
 ghost use Rattle.driver.specs.transmit.Going.{is_clean};
-ghost use Rattle.driver.specs.transmit.Cleaning.{CleanedBy};
+ghost use Rattle.driver.specs.transmit.Cleaning.{CleanedBy, CleanedOff};
 ghost use Rattle.driver.specs.transmit.Batches.{CleanedAll};
 
 use buffer_pool::{STASH_BUFFERS, Stash};
@@ -14,6 +14,7 @@ fn clean_reported(driver: &mut TxDriverEnd, ring: &TxRing, stash: &mut Stash)
     requires own { driver.old.table ≡ ring.now }
     requires live { is_live (driver_state driver.old) ≡ true }
     requires none_back { reclaimed driver.old ≡ 0 }
+    ensures off { CleanedOff driver.old driver.new }
     ensures into { CleanedBy is_clean driver.old stash.old driver.new stash.new }
     ensures known { known_of driver.new ≡ known_of driver.old }
     ensures all { (length stash.new ≡ STASH_BUFFERS) ⊎ (length (cleaned driver.new) ≡ seen_reported driver.new) }

@@ -7,9 +7,8 @@ ghost use Rattle.ring_model.specs.shared.Handshakes.{is_open};
 ghost use Rattle.driver.specs.transmit.Batches.{PostedFront};
 ghost use Rattle.ring_model.specs.transmit.Ring.{are_whole, carried};
 ghost use Rattle.tx_ring.specs.Ends.{driver_size, posted, returned, driver_state};
-ghost use Rattle.driver.specs.Steps.{is_post};
 ghost use Rattle.driver.specs.transmit.Frames.{frame_of, frames_of, segment_count, NeedsMore, IsTooLong};
-ghost use Rattle.driver.specs.transmit.Going.{WentOn};
+ghost use Rattle.driver.specs.transmit.Going.{PostedAll};
 
 use crate::rx_driver::MOST_BATCH;
 use arrayvec::ArrayVec;
@@ -68,7 +67,7 @@ fn post_frame(driver: &mut TxDriverEnd, ring: &TxRing, mut packet: Packet, rs: b
     requires packet { IsPacket packet }
     requires short { length packet < driver_size driver.old }
     requires room { length (posted driver.old) + length packet < returned driver.old + driver_size driver.old }
-    ensures went { WentOn is_post driver.old (frame_of rs packet) [] driver.new }
+    ensures went { PostedAll driver.old (frame_of rs packet) driver.new }
     ensures whole { are_whole (posted driver.new) ≡ true }
 {
     let paylen = packet.len() as u16;
@@ -97,7 +96,7 @@ fn post_front(
     requires counted { before < every }
     requires short { segment_count (take count packets.old.items) < driver_size driver.old }
     requires room { length (posted driver.old) + segment_count (take count packets.old.items) < returned driver.old + driver_size driver.old }
-    ensures went { WentOn is_post driver.old (frames_of every before (take count packets.old.items)) [] driver.new }
+    ensures went { PostedAll driver.old (frames_of every before (take count packets.old.items)) driver.new }
     ensures whole { are_whole (posted driver.new) ≡ true }
     ensures stays { packets.new.items ≡ drop count packets.old.items }
     ensures counted { result ≡ (before + count) % every }

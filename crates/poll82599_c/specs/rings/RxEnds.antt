@@ -81,9 +81,8 @@ Drove _ answer len eop before after old new = answer ≡ 4294967295
 -- A4 and A5, and A7 if it ends its frame: one more segment of these bytes is stored
 pub record WroteOne (bytes : Bytes) (eop : Bool) (old new : ControllerSide) : Type 0 where
   pub number : ℕ
-  pub word : ℕ
   pub written : ControllerSide
-  pub segment : written ≡ controller_grown (controller_grown old (controller.Fetched (serve_place old) word (buffer number []))) (controller.Own (WroteBack (serve_place old) (rx_word (length bytes) eop) (buffer number bytes)))
+  pub segment : written ≡ controller_grown (controller_grown old (controller.Fetched (serve_place old) 0 (buffer number []))) (controller.Own (WroteBack (serve_place old) (rx_word (length bytes) eop) (buffer number bytes)))
   pub head : new ≡ (if eop then controller_grown written (controller.StoredHead (serve_place written)) else written)
   pub grew : stored new ≡ stored old ++ record { number = number; payload = bytes; eop = eop } ∷ []
 

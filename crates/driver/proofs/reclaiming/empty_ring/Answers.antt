@@ -1,7 +1,7 @@
 -- The oldest buffer that is out lies in the stash.
 use Rattle.std.proofs.Common.{rules, ◌≡◌, ◌∙◌, true, ap, refl}
 use Rattle.ring_model.specs.shared.Handshakes.{is_stopped}
-use Rattle.shared_ring.specs.Ends.{DriverSide, driver_of, driver_state, next_place}
+use Rattle.shared_ring.specs.Ends.{DriverSide, driver_of, driver_state}
 use Rattle.shared_ring.specs.Records.{Driven}
 use Rattle.driver.proofs.Returning.{back-none, back-one, fewer-out}
 use Rattle.driver.proofs.reclaiming.empty_ring.Goals as goal
@@ -26,8 +26,8 @@ loop-end-preserved o c =
     record {
       own = ap (λ (d : DriverSide o.R.Direction.form). d.table) home.step ∙ c.loop-end.invariant.own;
       stopped = ap (λ (x : Driven o.R.Direction.Posted o.R.Direction.Given). is_stopped x.state) home.same ∙ c.loop-end.invariant.stopped;
-      back = back-one o.number old c.args.stash.now now c.loop-end.stash new c.push.new.self (next_place now) c.in-Some.buf home.item
-          c.loop-end.invariant.back home.step home.there (c.requires.1.1.1.1.1.0 home.item c.in-Some.buf home.is_of) home.same c.push.ensures;
+      back = back-one o.number old c.args.stash.now now c.loop-end.stash new c.push.new.self c.in-Some.buf
+          c.loop-end.invariant.back home (c.requires.1.1.1.1.1.0 home.item c.in-Some.buf home.is_of) c.push.ensures;
       known = home.known ∙ c.loop-end.invariant.known;
     }
 

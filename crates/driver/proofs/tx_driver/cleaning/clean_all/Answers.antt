@@ -25,18 +25,18 @@ pub returns-then-is_full : goal.returns-then-is_full
 returns-then-is_full c =
     let i = c.loop-driver.invariant in
     let e = c.clean_reported.ensures in
-    let up : CleanedUp c.loop-driver.driver c.loop-driver.stash c.clean_reported.new.driver c.clean_reported.new.stash = record { into = e.into; known = e.known; all = e.all } in
+    let up : CleanedUp c.loop-driver.driver c.loop-driver.stash c.clean_reported.new.driver c.clean_reported.new.stash = record { off = e.off; into = e.into; known = e.known; all = e.all } in
     elim c.then-is_full.branch [
       | then-is_full-via-then-is_full w ↦ subst (λ (d : DriverSide). CleanedAll c.args.driver.now c.args.stash.now d c.clean_reported.new.stash) (sym w.driver-is) (ends_full i.into up i.goes i.seen (w.if-is_full.ensures.value.0 refl))
       | then-is_full-via-else-is_full+then-not-poll_report w ↦
           let short : length c.clean_reported.new.stash < STASH_BUFFERS = (let some : ¬ (length c.clean_reported.new.stash ≡ STASH_BUFFERS) = λ full. false≢true (w.if-is_full.ensures.value.1 full) in omega (arith, some, w.if-is_full.ensures.few)) in
           subst (λ (d : DriverSide). CleanedAll c.args.driver.now c.args.stash.now d c.clean_reported.new.stash) (sym w.driver-is)
-          (ends_short i.into up i.goes i.seen short _ w.if-not-poll_report.ensures)
+          (ends_short i.into up i.goes i.seen short _ w.if-not-poll_report.ensures.found)
     ]
 
 pub loop-driver-smaller : goal.loop-driver-smaller
 loop-driver-smaller c =
-    let fewer = fewer_unseen c.clean_reported.new.driver c.poll_report.new.self c.if-not-poll_report.ensures in
+    let fewer = fewer_unseen c.clean_reported.new.driver c.poll_report.new.self c.if-not-poll_report.ensures.found in
     let seen = ap (λ (k : Knowing). k.seen) c.clean_reported.ensures.known in
     let same = same_posted c.clean_reported.ensures.into in
     omega (arith, fewer, seen, same)
@@ -46,9 +46,9 @@ loop-driver-preserved c =
     let i = c.loop-driver.invariant in
     let e = c.clean_reported.ensures in
     let reported = into_wider e.into in
-    let saw = c.if-not-poll_report.ensures in
+    let saw = c.if-not-poll_report.ensures.found in
     let found = found_one c.clean_reported.new.driver c.poll_report.new.self saw in
-    let up : CleanedUp c.loop-driver.driver c.loop-driver.stash c.clean_reported.new.driver c.clean_reported.new.stash = record { into = e.into; known = e.known; all = e.all } in
+    let up : CleanedUp c.loop-driver.driver c.loop-driver.stash c.clean_reported.new.driver c.clean_reported.new.stash = record { off = e.off; into = e.into; known = e.known; all = e.all } in
     let short : length c.clean_reported.new.stash < STASH_BUFFERS = (let some : ¬ (length c.clean_reported.new.stash ≡ STASH_BUFFERS) = λ full. false≢true (c.if-is_full.ensures.value.1 full) in omega (arith, some, c.if-is_full.ensures.few)) in
     let more = more_seen c.clean_reported.new.driver c.poll_report.new.self saw in
     let seen = ap (λ (k : Knowing). k.seen) e.known in

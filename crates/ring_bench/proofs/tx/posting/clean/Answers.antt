@@ -15,7 +15,7 @@ give-requires-clause-out c = let back = c.clean.ensures in let item = back.item 
     subst (IsOut c.loop.stock) (sym number) (out-next c.loop.stock (driver_size c.loop.driver) (driver_record c.loop.driver) item c.loop.invariant.supplies back.there)
 
 pub loop-init : goal.loop-init
-loop-init c = let old = c.args.driver.now in let found = c.poll_report.result in let new = c.poll_report.new.self in let saw = c.poll_report.ensures in record {
+loop-init c = let old = c.args.driver.now in let found = c.poll_report.result in let new = c.poll_report.new.self in let saw = c.poll_report.ensures.found in record {
   only = polled-only old found new saw;
   live = polled-live old found new saw c.if-not-poll_report.false;
   supplies = polled-supplies old found new c.args.stock.now saw c.requires.stock;

@@ -30,12 +30,12 @@ find_report-requires-clause-oldest c = let i = c.self.inside in oldest-at (drive
 pub invariant_of-self : goal.invariant_of-self
 invariant_of-self c = let i = c.self.inside in unseen-keeps (driver_of tx i.seat) i.at i.seen i.done i.unseen i.whole (boxed_slice_items i.asks) i.passed c.self.invariant c.args.self.now c.self.view_is c.in-Some.ahead c.place_ahead-place.result i.at.size (subst (λ (s : DriverSide). OldestAhead s (Some c.in-Some.ahead)) (sym c.self.view_is) c.in-Some.ensures) c.self.invariant.size_is c.place_ahead-place.ensures (sym c.if-not-is_live.ensures) (driver_of tx c.find_report.new.seat) c.find_report.result c.if-not-find_report.true c.find_report.ensures
 
-pub returns-then-not-find_report : goal.returns-then-not-find_report
-returns-then-not-find_report c = let i = c.self.inside in inl (saw-nothing (driver_of tx i.seat) i.at i.seen i.done i.unseen i.whole (boxed_slice_items i.asks) i.passed c.self.invariant c.args.self.now c.self.view_is c.in-Some.ahead c.place_ahead-place.result i.at.size (subst (λ (s : DriverSide). OldestAhead s (Some c.in-Some.ahead)) (sym c.self.view_is) c.in-Some.ensures) c.self.invariant.size_is c.place_ahead-place.ensures (sym c.if-not-is_live.ensures) (driver_of tx c.find_report.new.seat) c.find_report.result c.if-not-find_report.true c.find_report.ensures)
+pub returns-then-not-find_report-clause-found : goal.returns-then-not-find_report-clause-found
+returns-then-not-find_report-clause-found c = let i = c.self.inside in inl (saw-nothing (driver_of tx i.seat) i.at i.seen i.done i.unseen i.whole (boxed_slice_items i.asks) i.passed c.self.invariant c.args.self.now c.self.view_is c.in-Some.ahead c.place_ahead-place.result i.at.size (subst (λ (s : DriverSide). OldestAhead s (Some c.in-Some.ahead)) (sym c.self.view_is) c.in-Some.ensures) c.self.invariant.size_is c.place_ahead-place.ensures (sym c.if-not-is_live.ensures) (driver_of tx c.find_report.new.seat) c.find_report.result c.if-not-find_report.true c.find_report.ensures)
 
 pub invariant_of-self-2 : goal.invariant_of-self-2
 invariant_of-self-2 c = let i = c.self.inside in seen-keeps (driver_of tx i.seat) i.at i.seen i.done i.unseen i.whole (boxed_slice_items i.asks) i.passed c.self.invariant c.args.self.now c.self.view_is c.in-Some.ahead c.place_ahead-place.result i.at.size (subst (λ (s : DriverSide). OldestAhead s (Some c.in-Some.ahead)) (sym c.self.view_is) c.in-Some.ensures) c.self.invariant.size_is c.place_ahead-place.ensures (sym c.if-not-is_live.ensures) (driver_of tx c.find_report.new.seat) c.find_report.result c.place_after-self-inside.result c.if-not-find_report.false c.find_report.ensures
     (c.place_after-self-inside.ensures.value ∙ ap (λ n. if (c.place_ahead-place.result + 1) == n then 0 else (c.place_ahead-place.result + 1)) c.self.invariant.size_is)
 
-pub returns : goal.returns
-returns c = let i = c.self.inside in saw-report (driver_of tx i.seat) i.at i.seen i.done i.unseen i.whole (boxed_slice_items i.asks) i.passed c.self.invariant c.args.self.now c.self.view_is c.in-Some.ahead c.place_ahead-place.result i.at.size (subst (λ (s : DriverSide). OldestAhead s (Some c.in-Some.ahead)) (sym c.self.view_is) c.in-Some.ensures) c.self.invariant.size_is c.place_ahead-place.ensures (sym c.if-not-is_live.ensures) (driver_of tx c.find_report.new.seat) c.find_report.result c.if-not-find_report.false c.find_report.ensures
+pub returns-clause-found : goal.returns-clause-found
+returns-clause-found c = let i = c.self.inside in saw-report (driver_of tx i.seat) i.at i.seen i.done i.unseen i.whole (boxed_slice_items i.asks) i.passed c.self.invariant c.args.self.now c.self.view_is c.in-Some.ahead c.place_ahead-place.result i.at.size (subst (λ (s : DriverSide). OldestAhead s (Some c.in-Some.ahead)) (sym c.self.view_is) c.in-Some.ensures) c.self.invariant.size_is c.place_ahead-place.ensures (sym c.if-not-is_live.ensures) (driver_of tx c.find_report.new.seat) c.find_report.result c.if-not-find_report.false c.find_report.ensures

@@ -8,5 +8,5 @@ use Rattle.tx_ring.proofs.driver.TxDriverEnd.reclaim.Goals as goal
 pub invariant_of-self : goal.invariant_of-self
 invariant_of-self c = let i = c.self.inside in back-keeps (driver_of tx i.seat) i.at i.seen i.done i.unseen i.whole (boxed_slice_items i.asks) i.passed c.self.invariant c.args.self.now c.self.view_is c.reclaim_next.result (driver_of tx c.reclaim_next.new.self) c.reclaim_next.new.at c.reclaim_next.ensures.back c.reclaim_next.ensures.at
 
-pub returns : goal.returns
-returns c = let i = c.self.inside in back-home (driver_of tx i.seat) i.at i.seen i.done i.unseen i.whole (boxed_slice_items i.asks) i.passed c.self.invariant c.args.self.now c.self.view_is c.reclaim_next.result (driver_of tx c.reclaim_next.new.self) c.reclaim_next.ensures.back
+pub returns-clause-back : goal.returns-clause-back
+returns-clause-back c = let i = c.self.inside in back-home (driver_of tx i.seat) i.at i.seen i.done i.unseen i.whole (boxed_slice_items i.asks) i.passed c.self.invariant c.args.self.now c.self.view_is c.reclaim_next.result (driver_of tx c.reclaim_next.new.self) c.reclaim_next.ensures.back
