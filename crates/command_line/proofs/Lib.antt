@@ -13,6 +13,7 @@ pub mod ForwardWords
 pub mod ScheduleWords
 pub mod CoverWords
 pub mod RecommendedWords
+pub mod DriverWords
 pub mod CaptureWords
 pub mod Endings
 pub mod Sayings

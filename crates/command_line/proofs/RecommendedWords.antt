@@ -1,5 +1,5 @@
--- What clap makes of `schedules --recommended` and its options, and of any words that ask for lists that are drawn.
-use Rattle.std.proofs.Common.{◌≡◌, ◌∙◌, ap, ap₂, refl, arith, inl, inr, true, false, List, [], ◌∷◌, ◌++◌, codes, Some, None}
+-- What clap makes of `schedules --recommended` and its options.
+use Rattle.std.proofs.Common.{◌≡◌, ◌∙◌, ap, ap₂, refl, arith, true, false, List, [], ◌∷◌, ◌++◌, codes, Some, None}
 use Rattle.std.specs.Prelude.{not}
 use Rattle.std.specs.Fmt.{digits}
 use Rattle.clap.specs.Words.{App, Row, Text, subcommand_of, takes}
@@ -7,12 +7,12 @@ use Rattle.schedule_command.specs.declared.request.ScheduleRequest.{ScheduleRequ
 use Rattle.schedule_command.specs.Lists.{shows_page}
 use Rattle.command_line.specs.CommandLine.{IsProgram}
 use Rattle.command_line.specs.OptionWords.{is_head}
-use Rattle.command_line.specs.ScheduleWords.{HasLists, HasRecommended, SaysLists, SaysRecommended, expects_json, expects_registers, says_expect, last_words}
+use Rattle.command_line.specs.ScheduleWords.{HasRecommended, SaysRecommended, expects_json, expects_registers, says_expect, last_words}
 use Rattle.command_line.proofs.OptionRows.{both-false}
 use Rattle.command_line.proofs.Options.{Given, words_of}
 use Rattle.command_line.proofs.Options.Given.{flag, number, worded}
 use Rattle.command_line.proofs.OptionLists.{AreLawful, HasOptions, IsRead, IsSaid, all_words, each_read, is_said, options_hold, options_taken, said_of}
-use Rattle.command_line.proofs.ScheduleWords.{is_command, schedules_found, schedules_taken, shape}
+use Rattle.command_line.proofs.ScheduleWords.{is_command, shape}
 
 -- its options, with what the words say: none of those for other drawn lists
 abbrev options : (words : List Text) (request : ScheduleRequest) → SaysRecommended words request → List Given
@@ -68,12 +68,12 @@ words_are words request says =
 
 -- ---- what clap makes of them
 
-recommended_taken : (app : App) (words : List Text) (request : ScheduleRequest) → IsProgram app → SaysRecommended words request → takes app words ≡ true
+pub recommended_taken : (app : App) (words : List Text) (request : ScheduleRequest) → IsProgram app → SaysRecommended words request → takes app words ≡ true
 recommended_taken app words request program says =
     options_taken app words (codes "schedules") shape (options words request says) program (has_options words request says) (are_lawful words request says)
     (words_are words request says)
 
-recommended_found : (app : App) (words : List Text) (request : ScheduleRequest) → IsProgram app → SaysRecommended words request
+pub recommended_found : (app : App) (words : List Text) (request : ScheduleRequest) → IsProgram app → SaysRecommended words request
     → (rows : List Row) × (subcommand_of app words ≡ Some (codes "schedules", rows)) × HasRecommended rows request
 recommended_found app words request program says =
     let are = saying words request says in
@@ -104,14 +104,3 @@ recommended_found app words request program says =
             (both-false _ _ (found.2 2 none (omega arith)).1 (both-false _ _ (found.2 3 none (omega arith)).1 (found.2 15 none (omega arith)).1)));
       },
     )
-
--- ---- lists that are drawn, by either words
-
-pub lists_taken : (app : App) (words : List Text) (request : ScheduleRequest) → IsProgram app → SaysLists words request → takes app words ≡ true
-lists_taken app words request program (inl says) = schedules_taken app words request program says
-lists_taken app words request program (inr says) = recommended_taken app words request program says
-
-pub lists_found : (app : App) (words : List Text) (request : ScheduleRequest) → IsProgram app → SaysLists words request
-    → (rows : List Row) × (subcommand_of app words ≡ Some (codes "schedules", rows)) × HasLists rows request
-lists_found app words request program (inl says) = let found = schedules_found app words request program says in (found.0, found.1, inl found.2)
-lists_found app words request program (inr says) = let found = recommended_found app words request program says in (found.0, found.1, inr found.2)

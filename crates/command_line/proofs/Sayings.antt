@@ -37,7 +37,7 @@ use Rattle.command_line.proofs.Endings.{capture-ends, capture-kept, cover-kept, 
 use Rattle.command_line.proofs.ForwardWords.{forward_found, forward_taken}
 use Rattle.command_line.proofs.OnceWords.{once_found, once_taken}
 use Rattle.command_line.proofs.ReplayWords.{replay_found, replay_taken}
-use Rattle.command_line.proofs.RecommendedWords.{lists_found, lists_taken}
+use Rattle.command_line.proofs.DriverWords.{lists_found, lists_taken}
 
 -- ---- clap's part
 

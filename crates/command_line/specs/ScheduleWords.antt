@@ -1,7 +1,7 @@
 -- The words of `schedules`.
-use Rattle.std.specs.Prelude.{◌≡◌, ◌⊎◌, ◌^◌, ◌<◌, ◌||◌, ◌&&◌, Bool, true, false, not, List, [], ◌∷◌, ◌++◌, codes, decimal, find, is_some, option_and_then, Option, Some, None, if◌then◌else◌}
+use Rattle.std.specs.Prelude.{◌≡◌, ℕ, ◌⊎◌, ◌^◌, ◌<◌, ◌||◌, ◌&&◌, Bool, true, false, not, List, [], ◌∷◌, ◌++◌, codes, decimal, find, is_some, option_and_then, IsSomeAnd, Option, Some, None, if◌then◌else◌}
 use Rattle.std.specs.Str.{bytes_eq}
-use Rattle.clap.specs.Words.{App, Row, Rule, Text}
+use Rattle.clap.specs.Words.{App, Row, Rule, Text, first_of}
 use Rattle.clap.specs.declared.parser.matches.ValueSource.{ValueSource}
 use Rattle.clap.specs.declared.parser.matches.ValueSource.TheVariants.{CommandLine, DefaultValue}
 use Rattle.commands.specs.declared.replay.Pictures.TheVariants.{Never, Each, Last, States, Page}
@@ -10,6 +10,9 @@ use Rattle.commands.specs.declared.replay.TheConstants.{PAGE}
 use Rattle.commands.specs.declared.replay.Shown.{Shown}
 use Rattle.schedule_command.specs.declared.covering.request.CoverRequest.{CoverRequest}
 use Rattle.schedules.specs.declared.plan.SchedulePlan.{SchedulePlan}
+use Rattle.ring_model.specs.declared.states.Completion.TheVariants.{Status}
+use Rattle.schedules.specs.Thresholds.{Fit, IsThresholds}
+use Rattle.schedules.specs.declared.thresholds.Thresholds.{Thresholds}
 use Rattle.schedule_command.specs.Lists.{shows_page}
 use Rattle.schedule_command.specs.declared.request.ScheduleRequest.{ScheduleRequest}
 use Rattle.command_line.specs.OptionWords.{HasFlag, HasNumber, SaysNumber, SaysNumberBelow, bounded_rule, explain_rule, explain_words, flag_rule, flag_words, is_head, number_rule, queue_rules, with_rules, word_rule}
@@ -131,9 +134,39 @@ pub record SaysRecommended (words : List Text) (request : ScheduleRequest) : Typ
       ++ (flag_words (codes "--head") (is_head request.plan.completion) ++ last_words request.expect request.plan.device_only explained))))
   pub expected : IsExpected request.expect
 
--- The words request drawn lists, in either form.
+-- The lists of a driver with these thresholds, which fit the rings: the queues begin enabled and report by status words,
+-- and every move happens.
+pub record IsDriven (thresholds : Thresholds) (request : ScheduleRequest) : Type 0 where
+  pub driver : request.plan.driver ≡ Some thresholds
+  pub fit : Fit request.plan.ring thresholds
+  pub enabled : request.plan.enabled ≡ true
+  pub completion : request.plan.completion ≡ Status
+  pub refused : request.plan.refused ≡ 0
+  pub device_only : request.plan.device_only ≡ false
+
+-- The words are `schedules` with `--driver` and its options in this order: the seed, the number of moves, the thresholds,
+-- the queues, and the last words.
+pub record SaysDriver (words : List Text) (request : ScheduleRequest) : Type 0 where
+  pub thresholds : Thresholds
+  pub driven : IsDriven thresholds request
+  pub text : Text
+  pub is_text : IsThresholds text thresholds
+  pub count : List Text
+  pub ring : List Text
+  pub pairs : List Text
+  pub explained : Bool
+  pub seed_fits : request.seed < 2 ^ 32
+  pub moves_fits : request.plan.moves < 2 ^ 32
+  pub says_count : SaysNumber (codes "--count") 1 count request.count
+  pub says_ring : SaysNumber (codes "--ring") 8 ring request.plan.ring
+  pub says_pairs : SaysNumber (codes "--pairs") 1 pairs request.plan.pairs
+  pub words_are : words ≡ codes "schedules" ∷ codes "--seed" ∷ decimal request.seed ∷ codes "--moves" ∷ decimal request.plan.moves
+      ∷ codes "--driver" ∷ text ∷ (count ++ (ring ++ (pairs ++ last_words request.expect false explained)))
+  pub expected : IsExpected request.expect
+
+-- The words request drawn lists, in one of the three forms.
 abbrev pub SaysLists : List Text → ScheduleRequest → Type 0
-SaysLists words request = SaysSchedules words request ⊎ SaysRecommended words request
+SaysLists words request = SaysSchedules words request ⊎ (SaysRecommended words request ⊎ SaysDriver words request)
 
 -- The words are `schedules --cover` and its options in this order: `--head` if the transmit queue reports by a head
 -- word, and the last words.
@@ -164,6 +197,11 @@ abbrev pub counts : List Row → Bool
 counts rows =
     is_said (codes "seed") rows || (is_said (codes "moves") rows || (is_said (codes "count") rows
     || (is_said (codes "refused") rows || is_said (codes "driver") rows)))
+
+-- An option is given that a driver cannot follow.
+abbrev pub strays : List Row → Bool
+strays rows =
+    is_said (codes "off") rows || (is_said (codes "head") rows || (is_said (codes "refused") rows || is_said (codes "device-only-real") rows))
 
 -- The values of the arguments.
 pub record HasExpect (rows : List Row) (expect : Option Shown) : Type 0 where
@@ -200,8 +238,47 @@ pub record HasRecommended (rows : List Row) (request : ScheduleRequest) : Type 0
   pub expect : HasExpect rows request.expect
   pub uncounted : counts rows ≡ false
 
+pub record HasDriver (rows : List Row) (request : ScheduleRequest) : Type 0 where
+  pub cover : HasFlag rows (codes "cover") false
+  pub recommended : HasFlag rows (codes "recommended") false
+  pub is_driver : is_said (codes "driver") rows ≡ true
+  pub follows : strays rows ≡ false
+  pub thresholds : Thresholds
+  pub driven : IsDriven thresholds request
+  pub text : Text
+  pub is_text : IsThresholds text thresholds
+  pub value : first_of (codes "driver") rows ≡ Some text
+  pub seed : HasNumber rows (codes "seed") request.seed
+  pub moves : HasNumber rows (codes "moves") request.plan.moves
+  pub count : HasNumber rows (codes "count") request.count
+  pub queues : HasQueues rows request.plan
+  pub expect : HasExpect rows request.expect
+
 abbrev pub HasLists : List Row → ScheduleRequest → Type 0
-HasLists rows request = HasSchedules rows request ⊎ HasRecommended rows request
+HasLists rows request = HasSchedules rows request ⊎ (HasRecommended rows request ⊎ HasDriver rows request)
+
+-- Whether an option is given that excludes `--driver`.
+pub record Excludes (rows : List Row) (excluded : Bool) : Type 0 where
+  pub cover : Bool
+  pub recommended : Bool
+  pub has_cover : HasFlag rows (codes "cover") cover
+  pub has_recommended : HasFlag rows (codes "recommended") recommended
+  pub any : excluded ≡ (strays rows || (cover || recommended))
+
+-- The text of `--driver`, the ring length, and whether an option is given that excludes it.
+pub record HasText (rows : List Row) (text : Text) (n : ℕ) (excluded : Bool) : Type 0 where
+  pub value : first_of (codes "driver") rows ≡ Some text
+  pub ring : HasNumber rows (codes "ring") n
+  pub excludes : Excludes rows excluded
+
+-- The text states no thresholds that fit rings of n descriptors.
+abbrev pub FitNone : Text → ℕ → Type 0
+FitNone text n = (t : Thresholds) → IsThresholds text t → ¬ Fit n t
+
+-- The thresholds of a request for a driver's lists fit its rings, and no move may be refused.
+pub record FollowsDriver (request : ScheduleRequest) : Type 0 where
+  pub fit : IsSomeAnd request.plan.driver (Fit request.plan.ring)
+  pub refused : request.plan.refused ≡ 0
 
 pub record HasCover (rows : List Row) (request : CoverRequest) : Type 0 where
   pub cover : HasFlag rows (codes "cover") true

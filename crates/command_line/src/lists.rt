@@ -108,8 +108,9 @@ pub(crate) fn plan_in<'a>(
     refused: u32,
     driver: Option<Thresholds>,
 ) -> Option<SchedulePlan>
-    ensures { (plan : Plan) → HasQueues (rows_of (found_of matches.now)) plan → moves ≡ plan.moves → refused ≡ plan.refused
+    ensures said { (plan : Plan) → HasQueues (rows_of (found_of matches.now)) plan → moves ≡ plan.moves → refused ≡ plan.refused
         → driver ≡ plan.driver → result ≡ Some plan }
+    ensures given { IfSome result (λ plan. (plan.moves ≡ moves) × (plan.refused ≡ refused) × (plan.driver ≡ driver)) }
 {
     let ring = number_in(matches, "ring")?;
     let pairs = number_in(matches, "pairs")?;

@@ -54,3 +54,10 @@ pub(crate) fn word_in<'a>(matches: &ArgMatches<'a>, id: &str) -> Option<&'a str>
 {
     matches.get_str(id)
 }
+
+/// Returns the word of an option, or `None` if it is omitted.
+pub(crate) fn text_in<'a>(matches: &ArgMatches<'a>, id: &str) -> Option<&'a str>
+    ensures { option_map (λ word. word.now) result ≡ first_of id.now (rows_of (found_of matches.now)) }
+{
+    matches.get_str(id)
+}

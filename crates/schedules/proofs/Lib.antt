@@ -1,1 +1,2 @@
 mod Foretelling
+mod Fields

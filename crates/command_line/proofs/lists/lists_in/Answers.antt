@@ -10,7 +10,7 @@ never : (stands : Bool) → stands ≡ true → stands ≡ false → ⊥
 never stands is other = cc
 
 no-cover : (rows : List Row) (request : ScheduleRequest) → HasLists rows request → HasFlag rows (codes "cover") false
-no-cover rows request has = ⊎_elim (λ h. h.cover) (λ h. h.cover) has
+no-cover rows request has = ⊎_elim (λ h. h.cover) (λ h. ⊎_elim (λ k. k.cover) (λ k. k.cover) h) has
 
 pub returns-in_err-cover_in-clause-schedules : goal.returns-in_err-cover_in-clause-schedules
 returns-in_err-cover_in-clause-schedules c request has = absurd (never _ c.if-flag_in.true (c.flag_in.ensures false (no-cover _ request has)))

@@ -14,8 +14,8 @@ from-parts : (plan : SchedulePlan) (k n : ℕ) (b : Bool) (c : Completion) (m r 
 from-parts plan k n b c m r d t pairs_are ring_is enabled_is completion_is moves_are refused_is device_is driver_is =
     rw (pairs_are, ring_is, enabled_is, completion_is, moves_are, refused_is, device_is, driver_is) refl
 
-pub returns : goal.returns
-returns c plan has moves_are refused_are driver_is =
+pub returns-clause-said : goal.returns-clause-said
+returns-clause-said c plan has moves_are refused_are driver_is =
     ap (λ (p : SchedulePlan). Some p)
     (from-parts plan _ _ _ _ _ _ _ _ (c.in_ok-pairs.ensures plan.pairs has.pairs) (c.in_ok-ring.ensures plan.ring has.ring)
     (begins_as plan.enabled _ (c.flag_in-enabled.ensures (not plan.enabled) has.off)) (c.completion_in-completion.ensures plan.completion has.head)

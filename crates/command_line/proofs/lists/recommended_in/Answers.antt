@@ -11,14 +11,14 @@ returns-then-counts c request has = let both : true ≡ false = sym c.if-counts.
 
 pub returns-in_err-plan : goal.returns-in_err-plan
 returns-in_err-plan c request has =
-    let none : None ≡ Some request.plan = c.in_err-plan.ensures request.plan has.queues (sym has.is_recommended.moves) (sym has.is_recommended.refused) (sym has.is_recommended.driver) in cc
+    let none : None ≡ Some request.plan = c.in_err-plan.ensures.said request.plan has.queues (sym has.is_recommended.moves) (sym has.is_recommended.refused) (sym has.is_recommended.driver) in cc
 
 pub returns-in_err-expect : goal.returns-in_err-expect
 returns-in_err-expect c request has = let none : None ≡ Some request.expect = c.in_err-expect.ensures request.expect has.expect in cc
 
 pub returns : goal.returns
 returns c request has =
-    let plan = c.in_ok-plan.ensures request.plan has.queues (sym has.is_recommended.moves) (sym has.is_recommended.refused) (sym has.is_recommended.driver) in
+    let plan = c.in_ok-plan.ensures.said request.plan has.queues (sym has.is_recommended.moves) (sym has.is_recommended.refused) (sym has.is_recommended.driver) in
     ap (λ (r : ScheduleRequest). Some r)
     (request-from request _ _ _ _ (ap (λ (o : Option SchedulePlan). unwrap_or o request.plan) plan) (sym has.is_recommended.seed)
     (sym has.is_recommended.count) (ap (λ (o : Option (Option Shown)). unwrap_or o request.expect) (c.in_ok-expect.ensures request.expect has.expect)))

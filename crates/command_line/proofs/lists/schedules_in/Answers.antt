@@ -8,7 +8,7 @@ use Rattle.command_line.proofs.lists.schedules_in.Goals as goal
 
 pub returns-in_err-plan : goal.returns-in_err-plan
 returns-in_err-plan c request has =
-    let none : None ≡ Some request.plan = c.in_err-plan.ensures request.plan has.queues (c.in_ok-moves.ensures request.plan.moves has.moves)
+    let none : None ≡ Some request.plan = c.in_err-plan.ensures.said request.plan has.queues (c.in_ok-moves.ensures request.plan.moves has.moves)
     (c.in_ok-refused.ensures request.plan.refused has.refused) (sym has.driver) in
     cc
 
@@ -17,7 +17,7 @@ returns-in_err-expect c request has = let none : None ≡ Some request.expect = 
 
 pub returns : goal.returns
 returns c request has =
-    let plan = c.in_ok-plan.ensures request.plan has.queues (c.in_ok-moves.ensures request.plan.moves has.moves)
+    let plan = c.in_ok-plan.ensures.said request.plan has.queues (c.in_ok-moves.ensures request.plan.moves has.moves)
     (c.in_ok-refused.ensures request.plan.refused has.refused) (sym has.driver) in
     ap (λ (r : ScheduleRequest). Some r)
     (request-from request _ _ _ _ (ap (λ (o : Option SchedulePlan). unwrap_or o request.plan) plan)
