@@ -56,6 +56,33 @@ enum {
     POLL82599_MOST_BUFFERS = 256
 };
 
+/* The results of the ..._new calls, in the `int32_t` that they return. */
+enum poll82599_made {
+    POLL82599_MADE = 0,
+    POLL82599_MADE_NO_LENGTH = 1,   /* the length is not a power of two from 8 to 4,096 */
+    POLL82599_MADE_NO_MEMORY = 2,
+    POLL82599_MADE_NO_BUFFERS = 3,  /* the number of buffers is not 16 to 256 */
+    POLL82599_MADE_NO_SETTING = 4   /* another argument is out of range */
+};
+
+/* The results of the other calls on handles. A number has one meaning in a call; several calls share a number. */
+enum poll82599_result {
+    POLL82599_NOT_NOW = 0,      /* not now, or nothing to do; of ..._offer: too few descriptors are free, and the frame is held */
+    POLL82599_DONE = 1,
+    POLL82599_EMPTY = 2,        /* rx_poll: nothing is posted */
+    POLL82599_UNFIT = 2,        /* rx_store.., tx_post.., offer, packets_put: this length, or it cannot follow the frame so far */
+    POLL82599_NOT_DISABLED = 2, /* untaken, unsent, ..reclaim: no disabling was seen answered */
+    POLL82599_NOT_RENEWED = 2,  /* ..queue_enable: a disabling was seen answered, so renew first */
+    POLL82599_STASH_FULL = 2,   /* packet_free: the worker would have too many empty buffers */
+    POLL82599_NOT_ON = 3,       /* rx_poll, rx_store.., tx_send, offer, turn: the queue is off, or was said to be quiet */
+    POLL82599_TOO_LONG = 3,     /* tx_batch: the oldest packet has too many segments */
+    POLL82599_NO_ROOM = 4,      /* rx_poll, tx_send, turn, packet_copy: `room` is too small */
+    POLL82599_OVERSIZE = 4,     /* offer: the frame needs at least as many descriptors as the ring has */
+    POLL82599_DROPPED = 5,      /* offer: too few descriptors are free */
+    POLL82599_NO_MEMORY = 5,    /* turn */
+    POLL82599_LOST = 6          /* turn: sent, but longer than `room` */
+};
+
 /* What a call returns for a handle that is empty or of another kind, and for an unknown operation number; and what a close returns for
  * such a handle. */
 #define POLL82599_NO_END UINT32_C(0xFFFFFFFF)
@@ -91,6 +118,21 @@ enum { POLL82599_OFF = 0, POLL82599_ENABLE_ASKED = 1, POLL82599_ON = 2, POLL8259
 struct poll82599_rx_driver { uint8_t *end; };
 struct poll82599_rx_controller { uint8_t *end; };
 
+/* The operations of poll82599_rx_drive and poll82599_rx_serve. */
+enum poll82599_rx_driver_operation {
+    POLL82599_RX_POST = 0,
+    POLL82599_RX_SET_TAIL = 1,
+    POLL82599_RX_POLL = 2,
+    POLL82599_RX_ASK_ENABLE = 3,
+    POLL82599_RX_STATE = 4,
+    POLL82599_RX_ASK_DISABLE = 5,
+    POLL82599_RX_IS_QUIET = 6,
+    POLL82599_RX_RECLAIM = 7,
+    POLL82599_RX_RENEW = 8,
+    POLL82599_RX_UNTAKEN = 9
+};
+enum poll82599_rx_controller_operation { POLL82599_RX_ANSWER = 0, POLL82599_RX_STORE = 1, POLL82599_RX_SET_QUIET = 2 };
+
 /* The exported functions. Each takes the number of an operation; below is an inline function for each operation. */
 int32_t poll82599_rx_new(uint32_t descriptors, uint32_t buffers, struct poll82599_rx_driver *driver, struct poll82599_rx_controller *controller);
 void poll82599_rx_drive(struct poll82599_rx_driver *driver, struct poll82599_call *call, uint8_t *bytes, size_t room);
@@ -117,10 +159,10 @@ static inline uint32_t poll82599_rx_do(struct poll82599_rx_driver *driver, uint3
 
 /* Posts an empty buffer in the next descriptor (section 7.1.6.1). The controller sees it after poll82599_rx_set_tail. Allowed before the
  * queue is on. Returns 1: done; 0: no free descriptor, no empty buffer, or a disabling was asked for. */
-static inline uint32_t poll82599_rx_post(struct poll82599_rx_driver *driver) { return poll82599_rx_do(driver, 0); }
+static inline uint32_t poll82599_rx_post(struct poll82599_rx_driver *driver) { return poll82599_rx_do(driver, POLL82599_RX_POST); }
 
 /* Stores RDT after the last posted descriptor (section 7.1.9). Returns 1: done; 0: a disabling was asked for. */
-static inline uint32_t poll82599_rx_set_tail(struct poll82599_rx_driver *driver) { return poll82599_rx_do(driver, 1); }
+static inline uint32_t poll82599_rx_set_tail(struct poll82599_rx_driver *driver) { return poll82599_rx_do(driver, POLL82599_RX_SET_TAIL); }
 
 /* Takes the next segment, in the order in which they were stored (section 7.1.6.2), and makes its buffer an empty one of the driver
  * again. Returns 1: its bytes are at the beginning of `bytes`, its length in `*len` and its EOP in `*eop`; 0: the next descriptor has
@@ -128,7 +170,7 @@ static inline uint32_t poll82599_rx_set_tail(struct poll82599_rx_driver *driver)
  * writes to `bytes`. */
 static inline uint32_t poll82599_rx_poll(struct poll82599_rx_driver *driver, uint8_t *bytes, size_t room, uint32_t *len, uint32_t *eop)
 {
-    struct poll82599_call call = {2, 0, 0, 0, 0, 0};
+    struct poll82599_call call = {POLL82599_RX_POLL, 0, 0, 0, 0, 0};
     poll82599_rx_drive(driver, &call, bytes, room);
     *len = call.len;
     *eop = call.eop;
@@ -137,25 +179,25 @@ static inline uint32_t poll82599_rx_poll(struct poll82599_rx_driver *driver, uin
 
 /* Asks for the queue to be enabled (section 4.6.7). The controller has to answer. Returns 1: done; 0: this was asked before, and the
  * ring was not renewed since. */
-static inline uint32_t poll82599_rx_ask_enable(struct poll82599_rx_driver *driver) { return poll82599_rx_do(driver, 3); }
+static inline uint32_t poll82599_rx_ask_enable(struct poll82599_rx_driver *driver) { return poll82599_rx_do(driver, POLL82599_RX_ASK_ENABLE); }
 
 /* Loads and returns the control word: POLL82599_ON once an enabling is answered, POLL82599_OFF in a new ring and once a disabling is
  * answered. Only by this call does the driver learn of an answer. */
-static inline uint32_t poll82599_rx_state(struct poll82599_rx_driver *driver) { return poll82599_rx_do(driver, 4); }
+static inline uint32_t poll82599_rx_state(struct poll82599_rx_driver *driver) { return poll82599_rx_do(driver, POLL82599_RX_STATE); }
 
 /* Asks for the queue to be disabled. The controller has to answer. Returns 1: done; 0: poll82599_rx_state did not return POLL82599_ON
  * yet, or this was asked before. */
-static inline uint32_t poll82599_rx_ask_disable(struct poll82599_rx_driver *driver) { return poll82599_rx_do(driver, 5); }
+static inline uint32_t poll82599_rx_ask_disable(struct poll82599_rx_driver *driver) { return poll82599_rx_do(driver, POLL82599_RX_ASK_DISABLE); }
 
 /* Loads the quiet word. Returns 1: the controller said that it stores no more; 0: it did not. If a later poll82599_rx_poll returns 0
  * or 2, everything that was stored has been taken. */
-static inline uint32_t poll82599_rx_is_quiet(struct poll82599_rx_driver *driver) { return poll82599_rx_do(driver, 6); }
+static inline uint32_t poll82599_rx_is_quiet(struct poll82599_rx_driver *driver) { return poll82599_rx_do(driver, POLL82599_RX_IS_QUIET); }
 
 /* After the driver saw its disabling answered: loads RDH and puts into `*left` how many segments were stored and not taken. The number
  * is final. Returns 1: done; 0: a buffer was reclaimed before; 2: no disabling was seen answered. */
 static inline uint32_t poll82599_rx_untaken(struct poll82599_rx_driver *driver, uint32_t *left)
 {
-    struct poll82599_call call = {9, 0, 0, 0, 0, 0};
+    struct poll82599_call call = {POLL82599_RX_UNTAKEN, 0, 0, 0, 0, 0};
     uint8_t none = 0;
     poll82599_rx_drive(driver, &call, &none, 0);
     *left = call.len;
@@ -164,11 +206,11 @@ static inline uint32_t poll82599_rx_untaken(struct poll82599_rx_driver *driver, 
 
 /* Takes back the oldest buffer that is still in the disabled ring (section 4.6.7). Returns 1: done; 0: none is left; 2: no disabling was
  * seen answered. */
-static inline uint32_t poll82599_rx_reclaim(struct poll82599_rx_driver *driver) { return poll82599_rx_do(driver, 7); }
+static inline uint32_t poll82599_rx_reclaim(struct poll82599_rx_driver *driver) { return poll82599_rx_do(driver, POLL82599_RX_RECLAIM); }
 
 /* Clears the registers of a disabled queue from which all buffers are back. The ring is then as new: off, and it can be enabled again.
  * Returns 1: done; 0: no disabling was seen answered, or a buffer is still in the ring. */
-static inline uint32_t poll82599_rx_renew(struct poll82599_rx_driver *driver) { return poll82599_rx_do(driver, 8); }
+static inline uint32_t poll82599_rx_renew(struct poll82599_rx_driver *driver) { return poll82599_rx_do(driver, POLL82599_RX_RENEW); }
 
 /* ---- The controller's thread. */
 
@@ -184,14 +226,14 @@ static inline uint32_t poll82599_rx_act(struct poll82599_rx_controller *controll
 static inline uint32_t poll82599_rx_answer(struct poll82599_rx_controller *controller)
 {
     static const uint8_t none = 0;
-    return poll82599_rx_act(controller, 0, &none, 0, 0);
+    return poll82599_rx_act(controller, POLL82599_RX_ANSWER, &none, 0, 0);
 }
 
 /* Stores a frame of one segment, 14 to 2,048 bytes, and RDH. Returns 1: done; 0: no descriptor is free; 2: another length, or
  * these bytes cannot end the unfinished frame; 3: the queue is off, or was said to be quiet. Only 1 stores anything. */
 static inline uint32_t poll82599_rx_store(struct poll82599_rx_controller *controller, const uint8_t *frame, size_t len)
 {
-    return poll82599_rx_act(controller, 1, frame, len, 1);
+    return poll82599_rx_act(controller, POLL82599_RX_STORE, frame, len, 1);
 }
 
 /* Stores a segment of 1 to 2,048 bytes, with EOP if `eop` is not 0 (section 7.1.6.2), and RDH if it ends its frame. A frame has 14 to
@@ -199,20 +241,35 @@ static inline uint32_t poll82599_rx_store(struct poll82599_rx_controller *contro
  * the segment cannot follow the frame so far; 3: as above. After 0, 2 or 3 the frame is as it was. */
 static inline uint32_t poll82599_rx_store_segment(struct poll82599_rx_controller *controller, const uint8_t *bytes, size_t len, uint32_t eop)
 {
-    return poll82599_rx_act(controller, 1, bytes, len, eop);
+    return poll82599_rx_act(controller, POLL82599_RX_STORE, bytes, len, eop);
 }
 
 /* Says that no more is stored until the queue is enabled again. Returns 1: done; 0: the queue is off, or a frame is unfinished. */
 static inline uint32_t poll82599_rx_set_quiet(struct poll82599_rx_controller *controller)
 {
     static const uint8_t none = 0;
-    return poll82599_rx_act(controller, 2, &none, 0, 0);
+    return poll82599_rx_act(controller, POLL82599_RX_SET_QUIET, &none, 0, 0);
 }
 
 /* ---- Transmit rings. */
 
 struct poll82599_tx_driver { uint8_t *end; };
 struct poll82599_tx_controller { uint8_t *end; };
+
+/* The operations of poll82599_tx_drive and poll82599_tx_serve. */
+enum poll82599_tx_driver_operation {
+    POLL82599_TX_POST = 0,
+    POLL82599_TX_SET_TAIL = 1,
+    POLL82599_TX_POLL_REPORT = 2,
+    POLL82599_TX_ASK_ENABLE = 3,
+    POLL82599_TX_STATE = 4,
+    POLL82599_TX_ASK_DISABLE = 5,
+    POLL82599_TX_CLEAN = 6,
+    POLL82599_TX_RECLAIM = 7,
+    POLL82599_TX_RENEW = 8,
+    POLL82599_TX_UNSENT = 9
+};
+enum poll82599_tx_controller_operation { POLL82599_TX_ANSWER = 0, POLL82599_TX_SEND = 1 };
 
 int32_t poll82599_tx_new(uint32_t descriptors, uint32_t buffers, uint32_t by_head, struct poll82599_tx_driver *driver, struct poll82599_tx_controller *controller);
 void poll82599_tx_drive(struct poll82599_tx_driver *driver, struct poll82599_call *call, const uint8_t *segment, size_t len);
@@ -243,7 +300,7 @@ static inline uint32_t poll82599_tx_step(struct poll82599_tx_driver *driver, uin
  * descriptor, no empty buffer, or a disabling was asked for; 2: the segment cannot follow the frame so far. Only 1 posts anything. */
 static inline uint32_t poll82599_tx_post_segment(struct poll82599_tx_driver *driver, const uint8_t *bytes, size_t len, uint32_t eop, uint32_t rs, uint32_t paylen)
 {
-    struct poll82599_call call = {0, 0, 0, eop, rs, paylen};
+    struct poll82599_call call = {POLL82599_TX_POST, 0, 0, eop, rs, paylen};
     poll82599_tx_drive(driver, &call, bytes, len);
     return call.answer;
 }
@@ -255,44 +312,44 @@ static inline uint32_t poll82599_tx_post(struct poll82599_tx_driver *driver, con
 }
 
 /* Stores TDT after the last posted descriptor (section 7.2.3.4). Returns 1: done; 0: a disabling was asked for, or a frame is unfinished. */
-static inline uint32_t poll82599_tx_set_tail(struct poll82599_tx_driver *driver) { return poll82599_tx_step(driver, 1); }
+static inline uint32_t poll82599_tx_set_tail(struct poll82599_tx_driver *driver) { return poll82599_tx_step(driver, POLL82599_TX_SET_TAIL); }
 
 /* Loads the oldest report that is outstanding (section 7.2.3.5). Returns 1: it is made, and so are all before it; 0: it is not made, none
  * is outstanding, or the queue was not seen on. */
-static inline uint32_t poll82599_tx_poll_report(struct poll82599_tx_driver *driver) { return poll82599_tx_step(driver, 2); }
+static inline uint32_t poll82599_tx_poll_report(struct poll82599_tx_driver *driver) { return poll82599_tx_step(driver, POLL82599_TX_POLL_REPORT); }
 
 /* Asks for the queue to be enabled (section 4.6.8). The controller has to answer. Returns 1: done; 0: this was asked before, and the
  * ring was not renewed since. */
-static inline uint32_t poll82599_tx_ask_enable(struct poll82599_tx_driver *driver) { return poll82599_tx_step(driver, 3); }
+static inline uint32_t poll82599_tx_ask_enable(struct poll82599_tx_driver *driver) { return poll82599_tx_step(driver, POLL82599_TX_ASK_ENABLE); }
 
 /* Loads and returns the control word: POLL82599_ON once an enabling is answered, POLL82599_OFF in a new ring and once a disabling is
  * answered. Only by this call does the driver learn of an answer. */
-static inline uint32_t poll82599_tx_state(struct poll82599_tx_driver *driver) { return poll82599_tx_step(driver, 4); }
+static inline uint32_t poll82599_tx_state(struct poll82599_tx_driver *driver) { return poll82599_tx_step(driver, POLL82599_TX_STATE); }
 
 /* Asks for the queue to be disabled. The controller has to answer. Returns 1: done; 0: poll82599_tx_state did not return POLL82599_ON
  * yet, or this was asked before. */
-static inline uint32_t poll82599_tx_ask_disable(struct poll82599_tx_driver *driver) { return poll82599_tx_step(driver, 5); }
+static inline uint32_t poll82599_tx_ask_disable(struct poll82599_tx_driver *driver) { return poll82599_tx_step(driver, POLL82599_TX_ASK_DISABLE); }
 
 /* Takes back the buffer of the oldest descriptor that poll82599_tx_poll_report has found reported. Returns 1: done; 0: there is none, or
  * the queue is off. */
-static inline uint32_t poll82599_tx_clean(struct poll82599_tx_driver *driver) { return poll82599_tx_step(driver, 6); }
+static inline uint32_t poll82599_tx_clean(struct poll82599_tx_driver *driver) { return poll82599_tx_step(driver, POLL82599_TX_CLEAN); }
 
 /* After the driver saw its disabling answered: loads TDH and puts into `*left` how many segments were posted and not sent. The number is
  * final. Returns 1: done; 2: no disabling was seen answered. */
 static inline uint32_t poll82599_tx_unsent(struct poll82599_tx_driver *driver, uint32_t *left)
 {
-    struct poll82599_call call = {9, 0, 0, 0, 0, 0};
+    struct poll82599_call call = {POLL82599_TX_UNSENT, 0, 0, 0, 0, 0};
     uint32_t answer = poll82599_tx_do(driver, &call);
     *left = call.len;
     return answer;
 }
 
 /* Takes back the oldest buffer that is still in the disabled ring. Returns 1: done; 0: none is left; 2: no disabling was seen answered. */
-static inline uint32_t poll82599_tx_reclaim(struct poll82599_tx_driver *driver) { return poll82599_tx_step(driver, 7); }
+static inline uint32_t poll82599_tx_reclaim(struct poll82599_tx_driver *driver) { return poll82599_tx_step(driver, POLL82599_TX_RECLAIM); }
 
 /* Clears the registers of a disabled queue from which all buffers are back. The ring is then as new: off, and it can be enabled again.
  * Returns 1: done; 0: no disabling was seen answered, or a buffer is still in the ring. */
-static inline uint32_t poll82599_tx_renew(struct poll82599_tx_driver *driver) { return poll82599_tx_step(driver, 8); }
+static inline uint32_t poll82599_tx_renew(struct poll82599_tx_driver *driver) { return poll82599_tx_step(driver, POLL82599_TX_RENEW); }
 
 /* ---- The controller's thread. */
 
@@ -300,7 +357,7 @@ static inline uint32_t poll82599_tx_renew(struct poll82599_tx_driver *driver) { 
  * or a disabling has to wait until the unfinished frame is sent. */
 static inline uint32_t poll82599_tx_answer(struct poll82599_tx_controller *controller)
 {
-    struct poll82599_call call = {0, 0, 0, 0, 0, 0};
+    struct poll82599_call call = {POLL82599_TX_ANSWER, 0, 0, 0, 0, 0};
     uint8_t none = 0;
     poll82599_tx_serve(controller, &call, &none, 0);
     return call.answer;
@@ -311,7 +368,7 @@ static inline uint32_t poll82599_tx_answer(struct poll82599_tx_controller *contr
  * Only 1 sends a segment or writes to `bytes`. */
 static inline uint32_t poll82599_tx_send(struct poll82599_tx_controller *controller, uint8_t *bytes, size_t room, uint32_t *len, uint32_t *eop)
 {
-    struct poll82599_call call = {1, 0, 0, 0, 0, 0};
+    struct poll82599_call call = {POLL82599_TX_SEND, 0, 0, 0, 0, 0};
     poll82599_tx_serve(controller, &call, bytes, room);
     *len = call.len;
     *eop = call.eop;
@@ -363,6 +420,37 @@ struct poll82599_offered {
     uint64_t oversize;
 };
 
+/* The operations of poll82599_packets_do, of the ..._queue_move and ..._queue_do calls, and of the ..._device_do calls. */
+enum poll82599_packets_operation {
+    POLL82599_PACKET_COPY = 0,
+    POLL82599_PACKET_BYTE = 1,
+    POLL82599_PACKET_TOUCH = 2,
+    POLL82599_PACKET_FREE = 3,
+    POLL82599_PACKETS_COUNT = 4
+};
+enum poll82599_rx_queue_move_operation { POLL82599_RX_QUEUE_BATCH = 0, POLL82599_RX_QUEUE_RECLAIM = 1 };
+enum poll82599_tx_queue_move_operation { POLL82599_TX_QUEUE_BATCH = 0, POLL82599_TX_QUEUE_CLEAN = 1, POLL82599_TX_QUEUE_RECLAIM = 2 };
+enum poll82599_rx_queue_operation {
+    POLL82599_RX_QUEUE_ENABLE = 0,
+    POLL82599_RX_QUEUE_DISABLE = 1,
+    POLL82599_RX_QUEUE_FINISH = 2,
+    POLL82599_RX_QUEUE_RENEW = 3,
+    POLL82599_RX_QUEUE_IS_QUIET = 4
+};
+enum poll82599_tx_queue_operation {
+    POLL82599_TX_QUEUE_ENABLE = 0,
+    POLL82599_TX_QUEUE_DISABLE = 1,
+    POLL82599_TX_QUEUE_FINISH = 2,
+    POLL82599_TX_QUEUE_RENEW = 3
+};
+enum poll82599_rx_device_operation {
+    POLL82599_RX_DEVICE_OFFER = 0,
+    POLL82599_RX_DEVICE_CONTROL = 1,
+    POLL82599_RX_DEVICE_FINISH = 2,
+    POLL82599_RX_DEVICE_COUNTS = 3
+};
+enum poll82599_tx_device_operation { POLL82599_TX_DEVICE_TURN = 0, POLL82599_TX_DEVICE_CONTROL = 1 };
+
 /* The exported functions. Each takes the number of an operation; below is an inline function for each operation. */
 int32_t poll82599_packets_new(uint32_t buffers, struct poll82599_packets *packets);
 uint32_t poll82599_packets_put(struct poll82599_packets *packets, const uint8_t *frame, size_t len);
@@ -409,7 +497,7 @@ static inline uint32_t poll82599_packets_step(struct poll82599_packets *packets,
  * is the packet's length. */
 static inline uint32_t poll82599_packet_copy(struct poll82599_packets *packets, size_t packet, uint8_t *bytes, size_t room, size_t *len)
 {
-    struct poll82599_packet call = {0, 0, packet, 0, 0, 0};
+    struct poll82599_packet call = {POLL82599_PACKET_COPY, 0, packet, 0, 0, 0};
     poll82599_packets_do(packets, &call, bytes, room);
     *len = call.len;
     return call.answer;
@@ -418,7 +506,7 @@ static inline uint32_t poll82599_packet_copy(struct poll82599_packets *packets, 
 /* Reads a byte of a packet. Returns 1: done; 0: there is no such packet or byte. */
 static inline uint32_t poll82599_packet_byte(struct poll82599_packets *packets, size_t packet, size_t at, uint8_t *byte)
 {
-    struct poll82599_packet call = {1, 0, packet, 0, at, 0};
+    struct poll82599_packet call = {POLL82599_PACKET_BYTE, 0, packet, 0, at, 0};
     uint32_t answer = poll82599_packets_step(packets, &call);
     *byte = call.byte;
     return answer;
@@ -427,7 +515,7 @@ static inline uint32_t poll82599_packet_byte(struct poll82599_packets *packets, 
 /* Replaces a byte of a packet in place. Returns 1: done; 0: there is no such packet or byte. */
 static inline uint32_t poll82599_packet_touch(struct poll82599_packets *packets, size_t packet, size_t at, uint8_t byte)
 {
-    struct poll82599_packet call = {2, 0, packet, 0, at, byte};
+    struct poll82599_packet call = {POLL82599_PACKET_TOUCH, 0, packet, 0, at, byte};
     return poll82599_packets_step(packets, &call);
 }
 
@@ -435,18 +523,18 @@ static inline uint32_t poll82599_packet_touch(struct poll82599_packets *packets,
  * packet; 2: the worker would have more than 256 empty buffers. */
 static inline uint32_t poll82599_packet_free(struct poll82599_packets *packets, size_t packet)
 {
-    struct poll82599_packet call = {3, 0, packet, 0, 0, 0};
+    struct poll82599_packet call = {POLL82599_PACKET_FREE, 0, packet, 0, 0, 0};
     return poll82599_packets_step(packets, &call);
 }
 
 /* Returns how many packets the worker has, and puts into `*empty`, unless `empty` is null, how many empty buffers. */
 static inline size_t poll82599_packets_count(struct poll82599_packets *packets, size_t *empty)
 {
-    struct poll82599_packet call = {4, 0, 0, 0, 0, 0};
+    struct poll82599_packet call = {POLL82599_PACKETS_COUNT, 0, 0, 0, 0, 0};
     uint32_t answer = poll82599_packets_step(packets, &call);
     if (empty)
         *empty = call.len;
-    return answer == 1 ? call.packet : SIZE_MAX;
+    return answer == POLL82599_DONE ? call.packet : SIZE_MAX;
 }
 
 /* ---- The driver's thread. */
@@ -466,7 +554,7 @@ static inline uint32_t poll82599_rx_queue_step(struct poll82599_rx_queue *queue,
  * 0; 0: the queue was not seen on, or was seen off. */
 static inline uint32_t poll82599_rx_batch(struct poll82599_rx_queue *queue, struct poll82599_packets *packets, size_t *count)
 {
-    struct poll82599_batch call = {0, 0, 0};
+    struct poll82599_batch call = {POLL82599_RX_QUEUE_BATCH, 0, 0};
     poll82599_rx_queue_move(queue, packets, &call);
     *count = call.count;
     return call.answer;
@@ -474,21 +562,21 @@ static inline uint32_t poll82599_rx_batch(struct poll82599_rx_queue *queue, stru
 
 /* Asks for the queue to be enabled, if nothing was asked yet, and loads the control word. Call it until it returns 1; meanwhile the device
  * has to call poll82599_rx_device_control. Returns 1: the queue is on; 0: it is not; 2: it was seen disabled, renew it first. */
-static inline uint32_t poll82599_rx_queue_enable(struct poll82599_rx_queue *queue) { return poll82599_rx_queue_step(queue, 0, 0); }
+static inline uint32_t poll82599_rx_queue_enable(struct poll82599_rx_queue *queue) { return poll82599_rx_queue_step(queue, POLL82599_RX_QUEUE_ENABLE, 0); }
 
 /* Asks for the queue to be disabled. Returns 1: done; 0: the queue was not seen on, or this was asked before. */
-static inline uint32_t poll82599_rx_queue_disable(struct poll82599_rx_queue *queue) { return poll82599_rx_queue_step(queue, 1, 0); }
+static inline uint32_t poll82599_rx_queue_disable(struct poll82599_rx_queue *queue) { return poll82599_rx_queue_step(queue, POLL82599_RX_QUEUE_DISABLE, 0); }
 
 /* Loads the control word, and once the disabling is answered RDH. Call it until it returns 1; meanwhile the device has to call
  * poll82599_rx_device_control. Returns 1, once: the queue is off, and `*left` segments were stored and not taken; 0: not yet, or 1 was
  * returned before. `left` may be null. */
-static inline uint32_t poll82599_rx_queue_finish(struct poll82599_rx_queue *queue, size_t *left) { return poll82599_rx_queue_step(queue, 2, left); }
+static inline uint32_t poll82599_rx_queue_finish(struct poll82599_rx_queue *queue, size_t *left) { return poll82599_rx_queue_step(queue, POLL82599_RX_QUEUE_FINISH, left); }
 
 /* Takes the buffers of a disabled queue back as empty ones of the worker. Returns 1: `*count` buffers, which are all; 0: the worker has
  * room for 256, and some are left; 2: no disabling was seen answered. */
 static inline uint32_t poll82599_rx_queue_reclaim(struct poll82599_rx_queue *queue, struct poll82599_packets *packets, size_t *count)
 {
-    struct poll82599_batch call = {1, 0, 0};
+    struct poll82599_batch call = {POLL82599_RX_QUEUE_RECLAIM, 0, 0};
     poll82599_rx_queue_move(queue, packets, &call);
     *count = call.count;
     return call.answer;
@@ -496,10 +584,10 @@ static inline uint32_t poll82599_rx_queue_reclaim(struct poll82599_rx_queue *que
 
 /* Clears the registers of a disabled queue from which all buffers are back. The queue is then as new. Returns 1: done; 0: no disabling was
  * seen answered, or a buffer is still in the ring. */
-static inline uint32_t poll82599_rx_queue_renew(struct poll82599_rx_queue *queue) { return poll82599_rx_queue_step(queue, 3, 0); }
+static inline uint32_t poll82599_rx_queue_renew(struct poll82599_rx_queue *queue) { return poll82599_rx_queue_step(queue, POLL82599_RX_QUEUE_RENEW, 0); }
 
 /* Loads the quiet word. Returns 1: the device said that it stores no more; 0: it did not. */
-static inline uint32_t poll82599_rx_queue_is_quiet(struct poll82599_rx_queue *queue) { return poll82599_rx_queue_step(queue, 4, 0); }
+static inline uint32_t poll82599_rx_queue_is_quiet(struct poll82599_rx_queue *queue) { return poll82599_rx_queue_step(queue, POLL82599_RX_QUEUE_IS_QUIET, 0); }
 
 static inline uint32_t poll82599_tx_queue_step(struct poll82599_tx_queue *queue, uint32_t operation, size_t *count)
 {
@@ -522,17 +610,17 @@ static inline uint32_t poll82599_tx_queue_with(struct poll82599_tx_queue *queue,
  * fit, the last one with a request for a report, and stores TDT once if it posted any; after ..._disable it posts nothing. Returns 1:
  * done, and `*count` packets were posted and belong to the queue; 0: the queue was not seen on, or was seen off; 3: the oldest
  * packet has at least as many segments as the ring has descriptors, and all packets stay. */
-static inline uint32_t poll82599_tx_batch(struct poll82599_tx_queue *queue, struct poll82599_packets *packets, size_t *count) { return poll82599_tx_queue_with(queue, packets, 0, count); }
+static inline uint32_t poll82599_tx_batch(struct poll82599_tx_queue *queue, struct poll82599_packets *packets, size_t *count) { return poll82599_tx_queue_with(queue, packets, POLL82599_TX_QUEUE_BATCH, count); }
 
 /* Takes back the buffers of reported frames as empty ones of the worker. Returns 1: done, `*count` buffers; 0: as above. */
-static inline uint32_t poll82599_tx_queue_clean(struct poll82599_tx_queue *queue, struct poll82599_packets *packets, size_t *count) { return poll82599_tx_queue_with(queue, packets, 1, count); }
+static inline uint32_t poll82599_tx_queue_clean(struct poll82599_tx_queue *queue, struct poll82599_packets *packets, size_t *count) { return poll82599_tx_queue_with(queue, packets, POLL82599_TX_QUEUE_CLEAN, count); }
 
 /* As the calls of a receive queue. `*left` is how many segments were posted and not sent. */
-static inline uint32_t poll82599_tx_queue_enable(struct poll82599_tx_queue *queue) { return poll82599_tx_queue_step(queue, 0, 0); }
-static inline uint32_t poll82599_tx_queue_disable(struct poll82599_tx_queue *queue) { return poll82599_tx_queue_step(queue, 1, 0); }
-static inline uint32_t poll82599_tx_queue_finish(struct poll82599_tx_queue *queue, size_t *left) { return poll82599_tx_queue_step(queue, 2, left); }
-static inline uint32_t poll82599_tx_queue_reclaim(struct poll82599_tx_queue *queue, struct poll82599_packets *packets, size_t *count) { return poll82599_tx_queue_with(queue, packets, 2, count); }
-static inline uint32_t poll82599_tx_queue_renew(struct poll82599_tx_queue *queue) { return poll82599_tx_queue_step(queue, 3, 0); }
+static inline uint32_t poll82599_tx_queue_enable(struct poll82599_tx_queue *queue) { return poll82599_tx_queue_step(queue, POLL82599_TX_QUEUE_ENABLE, 0); }
+static inline uint32_t poll82599_tx_queue_disable(struct poll82599_tx_queue *queue) { return poll82599_tx_queue_step(queue, POLL82599_TX_QUEUE_DISABLE, 0); }
+static inline uint32_t poll82599_tx_queue_finish(struct poll82599_tx_queue *queue, size_t *left) { return poll82599_tx_queue_step(queue, POLL82599_TX_QUEUE_FINISH, left); }
+static inline uint32_t poll82599_tx_queue_reclaim(struct poll82599_tx_queue *queue, struct poll82599_packets *packets, size_t *count) { return poll82599_tx_queue_with(queue, packets, POLL82599_TX_QUEUE_RECLAIM, count); }
+static inline uint32_t poll82599_tx_queue_renew(struct poll82599_tx_queue *queue) { return poll82599_tx_queue_step(queue, POLL82599_TX_QUEUE_RENEW, 0); }
 
 /* ---- The device's thread. */
 
@@ -549,24 +637,24 @@ static inline uint32_t poll82599_rx_device_step(struct poll82599_rx_device *devi
  * descriptors as the ring has (oversize); 5: too few descriptors are free, and it is dropped. Only 1 stores anything. */
 static inline uint32_t poll82599_offer(struct poll82599_rx_device *device, const uint8_t *frame, size_t len)
 {
-    struct poll82599_offered call = {0, 0, 0, 0, 0, 0};
+    struct poll82599_offered call = {POLL82599_RX_DEVICE_OFFER, 0, 0, 0, 0, 0};
     poll82599_rx_device_do(device, &call, frame, len);
     return call.answer;
 }
 
 /* Loads the control word, and answers what the driver asks. Returns the control word that it stored, or else the one that it loaded:
  * POLL82599_ON once the queue is on, POLL82599_OFF in a new queue and once a disabling is answered. */
-static inline uint32_t poll82599_rx_device_control(struct poll82599_rx_device *device) { return poll82599_rx_device_step(device, 1); }
+static inline uint32_t poll82599_rx_device_control(struct poll82599_rx_device *device) { return poll82599_rx_device_step(device, POLL82599_RX_DEVICE_CONTROL); }
 
 /* Says that no more is stored until the queue is enabled again. Returns 1: done; 0: the queue is off, or this was said before. */
-static inline uint32_t poll82599_rx_device_finish(struct poll82599_rx_device *device) { return poll82599_rx_device_step(device, 2); }
+static inline uint32_t poll82599_rx_device_finish(struct poll82599_rx_device *device) { return poll82599_rx_device_step(device, POLL82599_RX_DEVICE_FINISH); }
 
 /* Counts the frames that were stored, dropped or oversize, and all of them together (`offered`). An offer that returned 0, 2 or 3 counts
  * nowhere. The `answer` of the result is 1. */
 static inline struct poll82599_offered poll82599_rx_device_counts(struct poll82599_rx_device *device)
 {
     static const uint8_t none = 0;
-    struct poll82599_offered call = {3, 0, 0, 0, 0, 0};
+    struct poll82599_offered call = {POLL82599_RX_DEVICE_COUNTS, 0, 0, 0, 0, 0};
     poll82599_rx_device_do(device, &call, &none, 0);
     return call;
 }
@@ -577,7 +665,7 @@ static inline struct poll82599_offered poll82599_rx_device_counts(struct poll825
  * anything. */
 static inline uint32_t poll82599_turn(struct poll82599_tx_device *device, uint8_t *bytes, size_t room, size_t *len)
 {
-    struct poll82599_batch call = {0, 0, 0};
+    struct poll82599_batch call = {POLL82599_TX_DEVICE_TURN, 0, 0};
     poll82599_tx_device_do(device, &call, bytes, room);
     *len = call.count;
     return call.answer;
@@ -587,7 +675,7 @@ static inline uint32_t poll82599_turn(struct poll82599_tx_device *device, uint8_
 static inline uint32_t poll82599_tx_device_control(struct poll82599_tx_device *device)
 {
     uint8_t none = 0;
-    struct poll82599_batch call = {1, 0, 0};
+    struct poll82599_batch call = {POLL82599_TX_DEVICE_CONTROL, 0, 0};
     poll82599_tx_device_do(device, &call, &none, 0);
     return call.answer;
 }
@@ -609,6 +697,22 @@ struct poll82599_descriptor {
 enum { POLL82599_RX_READ = 0, POLL82599_RX_BACK = 1, POLL82599_TX_READ = 2, POLL82599_TX_BACK = 3 };
 
 enum { POLL82599_DESCRIPTOR_BYTES = 16 };
+
+/* The results of the calls below, with NO_END of decode and encode. poll82599_moves also returns the numbers of refusals (docs/REFUSALS.md). */
+enum poll82599_plain_result {
+    POLL82599_PLAIN_DONE = 0,
+    POLL82599_NOT_SIXTEEN = 1,      /* decode, encode: `len` is not 16 */
+    POLL82599_NO_FRAME_LENGTH = 1,  /* once: `len` is not 14 to 14,336 */
+    POLL82599_PAGE_SMALL = 1,       /* moves: `room` is too small */
+    POLL82599_FIXED_BIT = 2,        /* decode: a bit that the profile fixes has another value */
+    POLL82599_NOT_DESCRIBED = 2,    /* encode: no descriptor of the form has these fields */
+    POLL82599_ONCE_NO_MEMORY = 2,   /* once */
+    POLL82599_NOT_ADVANCED = 3,     /* decode: no advanced data descriptor */
+    POLL82599_LENGTH_RANGE = 4,     /* decode: a length is out of range */
+    POLL82599_ONCE_NO_ROOM = 4,     /* once: `room` is less than `len` */
+    POLL82599_NO_QUEUES = 12,       /* moves: there can be no such queues */
+    POLL82599_NOT_A_MOVE = 14       /* moves: a line is no move */
+};
 
 /* Decodes the `len` bytes of a descriptor. Returns 0: done; or the lowest of these numbers that applies: 1: `len` is not 16; 2: a bit that
  * the profile fixes has another value; 3: no advanced data descriptor; 4: a length is out of range; or 4,294,967,295: there is no such
