@@ -1,5 +1,5 @@
 //! Descriptors as 16 bytes and as numbers.
-ghost use Rattle.std.specs.Prelude.{◌≡◌, ◌≢◌, IfErr, IfNone, IfOk, IfSome, length};
+ghost use Rattle.std.specs.Prelude.{◌≡◌, ◌≢◌, ◌<◌, IfErr, IfNone, IfOk, IfSome, length};
 ghost use Rattle.descriptor.specs.Layout.{AreBytes};
 ghost use Rattle.descriptor.specs.Receive.{rx_back_form, rx_back_numbers, rx_read_form, rx_read_numbers};
 ghost use Rattle.descriptor.specs.Transmit.{no_numbers, tx_back_form, tx_read_form, tx_read_numbers};
@@ -48,6 +48,7 @@ pub extern "C" fn poll82599_decode(form: u32, bytes: &[u8], said: &mut Poll82599
     ensures no_rx_back { (form ≡ 1) → (result ≢ 0) → IsRefusal rx_back_form bytes.now result }
     ensures no_tx_read { (form ≡ 2) → (result ≢ 0) → IsRefusal tx_read_form bytes.now result }
     ensures no_tx_back { (form ≡ 3) → (result ≢ 0) → IsRefusal tx_back_form bytes.now result }
+    ensures no_form { (3 < form) → result ≡ 4294967295 }
 {
     let read = match form {
         0 => rx_read_in(bytes),
@@ -81,6 +82,7 @@ pub extern "C" fn poll82599_encode(form: u32, said: &Poll82599Descriptor, bytes:
     ensures no_rx_back { (form ≡ 1) → (result ≡ 2) → ¬ IsRxBack said.now }
     ensures no_tx_read { (form ≡ 2) → (result ≡ 2) → ¬ IsTxRead said.now }
     ensures always_tx_back { (form ≡ 3) → result ≢ 2 }
+    ensures no_form { (3 < form) → (length bytes.old ≡ 16) → result ≡ 4294967295 }
 {
     if bytes.len() != 16 {
         return NOT_SIXTEEN;
