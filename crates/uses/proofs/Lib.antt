@@ -1,1 +1,2 @@
 mod Moving
+pub mod Posted

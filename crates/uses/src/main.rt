@@ -47,9 +47,15 @@ fn lent_out<R: Wait>(rt: &R, alloc: Global, frame: &Frame) -> Result<usize> {
     lent_and_returned(rt, alloc, &pool, pass, frame)
 }
 
-/// How many buffers a stock has after its ring is closed.
-fn back(alloc: Global) -> Result<usize> {
-    Ok(closed(alloc)?.len())
+/// Prints which buffers were in a closed ring, and how many its stock has then.
+fn tell_closed<R: Print>(rt: &R, alloc: Global, frame: &Frame) -> Result<()> {
+    let (stock, numbers) = closed(alloc, frame)?;
+    print!(rt; "the closed ring had buffers")?;
+    for number in &numbers {
+        print!(rt; " {number}")?;
+    }
+    println!(rt; "; {} are in the stock again", stock.len())?;
+    Ok(())
 }
 
 /// Prints how many frames go through one ring between two threads.
@@ -83,7 +89,7 @@ fn main(rt: HostRuntime) -> Result<()> {
         println!(rt; "took {} bytes in buffer {}", buf.len(), buf.number())?;
     }
     println!(rt; "gave {} buffers back", given(&rt, alloc, &frame)?)?;
-    println!(rt; "{} buffers are in the stock again", back(alloc)?)?;
+    tell_closed(&rt, alloc, &frame)?;
     println!(rt; "forwarded {} frames", forwarded(alloc, &frame)?)?;
     let count = lent_out(&rt, alloc, &frame)?;
     println!(rt; "forwarded {count} frames in buffers of a pool")?;
