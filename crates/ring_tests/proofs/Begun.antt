@@ -6,7 +6,7 @@ use Rattle.std.proofs.lemmas.Option.{none-some}
 use Rattle.ring_model.specs.shared.Frames.{unfinished}
 use Rattle.ring_model.specs.transmit.Ring.{carried}
 use Rattle.ring_laws.specs.Lists.{slice_get-snoc}
-use Rattle.test_kit.proofs.Begun.{begun_grows}
+use Rattle.ring_tests.proofs.Growing.{begun_grows}
 use Rattle.tx_ring.specs.Records.{Posting}
 use Rattle.ring_tests.specs.Begun.{AreOfFrame}
 

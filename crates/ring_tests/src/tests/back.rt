@@ -1,6 +1,6 @@
 //! The buffers that come back from a ring of 16 buffers after two threads used it.
 
-use test_kit::Closed;
+use crate::Closed;
 
 /// Counts of the buffers that the closed ring returned.
 #[derive(Clone, Copy)]

@@ -5,10 +5,10 @@ use crate::tests::controllers::told::{Bytes, Told, Walked};
 use crate::walked;
 use buffer_pool::Stash;
 use controller::{RxController, Tally};
+use ring_tests::{Tells, asked, full_stash, put_back, renewed, told_so};
 use rx_ring::{Control, ControllerEnd, DriverEnd, Poll, RxDriverEnd, RxRing};
 use std::alloc::Global;
 use std::process::Abort;
-use test_kit::{Tells, asked, full_stash, put_back, renewed, told_so};
 
 /// A step of the controller or of the driver. A frame is a number of bytes from a place on.
 #[derive(Clone, Copy, Drop)]

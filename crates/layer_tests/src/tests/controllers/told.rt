@@ -1,9 +1,9 @@
 //! The results of steps of a controller, or of the driver beside it.
 
 use controller::{CtlError, Offer, Turn};
+use ring_tests::Random;
 use std::alloc::Global;
 use std::process::Abort;
-use test_kit::Random;
 
 /// The result of a step.
 #[derive(Clone, Copy, PartialEq, Drop)]

@@ -12,9 +12,9 @@ use crate::walked;
 use buffer_pool::Stash;
 use controller::{CtlError, Turn, TxController, Wire};
 use limits::{LEAST_FRAME, MOST_FRAME, MOST_SEGMENTS};
+use ring_tests::{Tells, asked, full_stash, put_back, renewed, told_so};
 use std::alloc::Global;
 use std::process::Abort;
-use test_kit::{Tells, asked, full_stash, put_back, renewed, told_so};
 use tx_ring::{Completion, Control, ControllerEnd, DriverEnd, TxDriverEnd, TxRing};
 
 /// A step of the driver or of the controller. A frame is a number of bytes from a place on.

@@ -1,8 +1,8 @@
 //! Frames with distinct lengths and bytes. They are slices of one sequence of random bytes, so none is allocated.
 
 use limits::LEAST_FRAME;
+use ring_tests::Random;
 use std::alloc::{AllocError, Global};
-use test_kit::Random;
 
 /// The number of places at which a frame may begin.
 const BEGINNINGS: u32 = 2_003;

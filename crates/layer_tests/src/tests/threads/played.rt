@@ -6,8 +6,8 @@ use crate::tests::threads::frames::Frames;
 use crate::tests::threads::side::{Epochs, Shared, Side};
 use descriptor::TxRead;
 use limits::{BUFFER_BYTES, MOST_SEGMENTS};
+use ring_tests::Storer;
 use rx_ring::{ControllerEnd, RxRing};
-use test_kit::Storer;
 use tx_ring::{TxControllerEnd, TxRing};
 
 /// The next frame to store, and the first one of this epoch.

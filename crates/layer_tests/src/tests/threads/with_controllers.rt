@@ -11,12 +11,12 @@ use crate::tests::threads::side::{Shared, run_both};
 use crate::tests::wanted::holds;
 use buffer_pool::Stash;
 use controller::{RxController, Tally, TxController, Wire};
+use ring_tests::full_stash;
 use rx_ring::{ControllerEnd, RxControllerEnd};
 use std::alloc::Global;
 use std::process::Abort;
 use std::sync::Wait;
 use std::thread::Threads;
-use test_kit::full_stash;
 use tx_ring::{Completion, TxControllerEnd};
 
 /// The parameters of a run.

@@ -8,11 +8,11 @@ use crate::tests::threads::rings::Rings;
 use crate::tests::threads::side::{Shared, run_both};
 use crate::tests::wanted::same;
 use buffer_pool::Stash;
+use ring_tests::{Closed, Storer, full_stash};
 use std::alloc::Global;
 use std::process::Abort;
 use std::sync::Wait;
 use std::thread::Threads;
-use test_kit::{Closed, Storer, full_stash};
 use tx_ring::Completion;
 
 /// The number of buffers.

@@ -6,6 +6,7 @@ mod hands;
 
 use crate::tests::back::Back;
 use crate::tests::wanted::{holds, same};
+use crate::{Closed, full_stash};
 use buffer_pool::{Buf, Stash};
 use hands::{ask_for, fetch, fill_ring, left, receive, reclaim_all, renew, serve};
 use rx_ring::{Control, RxControllerEnd, RxDriverEnd, RxRing, close, meet_rx};
@@ -14,7 +15,6 @@ use std::process::Abort;
 use std::sync::Wait;
 use std::thread;
 use std::thread::Threads;
-use test_kit::{Closed, full_stash};
 
 /// The number of frames in one epoch.
 const FRAMES: u32 = 300;

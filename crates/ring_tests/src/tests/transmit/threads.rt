@@ -5,6 +5,7 @@ mod hands;
 
 use crate::tests::back::Back;
 use crate::tests::wanted::{holds, same};
+use crate::{Closed, full_stash};
 use buffer_pool::{Buf, Stash};
 use hands::{Passed, ask_for, drain, fetch, left, renew, serve, transmit};
 use std::alloc::Global;
@@ -12,7 +13,6 @@ use std::process::Abort;
 use std::sync::Wait;
 use std::thread;
 use std::thread::Threads;
-use test_kit::{Closed, full_stash};
 use tx_ring::{Completion, Control, TxControllerEnd, TxDriverEnd, TxRing, close, meet_tx};
 
 /// The number of frames posted in one epoch; the last asks for a report.

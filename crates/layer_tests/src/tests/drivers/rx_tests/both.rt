@@ -8,11 +8,11 @@ use arrayvec::ArrayVec;
 use buffer_pool::{Packet, Stash};
 use driver::{DriverError, MOST_BATCH, QueueDriver, RxDriver};
 use limits::BUFFER_BYTES;
+use ring_tests::{Storer, Tells, full_stash};
 use rx_ring::RxRing;
 use std::alloc::Global;
 use std::mem;
 use std::process::Abort;
-use test_kit::{Storer, Tells, full_stash};
 
 /// A ring with a driver and a controller's end.
 #[derive(Drop)]

@@ -5,9 +5,9 @@ use crate::tests::drivers::rx_tests::both::{Both, RxCall};
 use crate::tests::drivers::told::{Call, Told};
 use crate::tests::wanted::same;
 use driver::DriverError;
+use ring_tests::told_so;
 use std::alloc::Global;
 use std::process::Abort;
-use test_kit::told_so;
 
 /// A call, and its expected result.
 type Row = (Call<RxCall>, Told);

@@ -9,9 +9,9 @@ use arrayvec::ArrayVec;
 use buffer_pool::{Buf, Packet, STASH_BUFFERS, Stash, Stock};
 use descriptor::TxRead;
 use driver::{DriverError, MOST_BATCH, QueueDriver, TxDriver};
+use ring_tests::{Tells, put_back};
 use std::alloc::Global;
 use std::process::Abort;
-use test_kit::{Tells, put_back};
 use tx_ring::{Completion, ControllerEnd, TxControllerEnd, TxRing, close};
 
 /// The greatest length of a segment.

@@ -4,9 +4,9 @@ use crate::tests::drivers::told::{Call, Told};
 use crate::tests::drivers::tx_tests::queue::{Places, Queue, TxCall};
 use crate::tests::wanted::same;
 use driver::DriverError;
+use ring_tests::told_so;
 use std::alloc::Global;
 use std::process::Abort;
-use test_kit::told_so;
 use tx_ring::Completion;
 
 /// A call, and its expected result.

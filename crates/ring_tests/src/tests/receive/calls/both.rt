@@ -8,6 +8,10 @@ ghost use Rattle.rx_ring.specs.Ends.{controller_size, held as held_by, reclaimed
 ghost use Rattle.ring_tests.specs.Holding.{held_as};
 
 use crate::tests::steps::rx_step;
+use crate::{
+    BUFFERS, Beside, Closed, Random, filled, full_stash, is_filled, put_back, random_control,
+    renewed, shake,
+};
 use buffer_pool::{Buf, Stash};
 use limits::{LEAST_FRAME, MOST_FRAME, MOST_SEGMENTS};
 use ring_machine::{RxMachine, SegmentLength};
@@ -17,10 +21,6 @@ use rx_ring::{
 };
 use std::alloc::Global;
 use std::process::Abort;
-use test_kit::{
-    BUFFERS, Beside, Closed, Random, filled, full_stash, is_filled, put_back, random_control,
-    renewed, shake,
-};
 
 /// A step of a receive ring.
 pub(crate) type Step = RxStep<SegmentLength>;

@@ -3,12 +3,12 @@
 use crate::tests::receive::calls::both::Both;
 use crate::tests::steps::{RxNamed, rx_step};
 use crate::tests::wanted::same;
+use crate::{Beside, Tells, disable, enable, told_so};
 use buffer_pool::Buf;
 use ring_model::{ControlStep, Note, RxStep, TakenSegment};
 use rx_ring::{ControllerEnd, DriverEnd, RingError, RxDriverEnd, RxRing};
 use std::alloc::Global;
 use std::process::Abort;
-use test_kit::{Beside, Tells, disable, enable, told_so};
 
 /// An action of a row on a ring, or a look at it.
 #[derive(Clone, Copy)]

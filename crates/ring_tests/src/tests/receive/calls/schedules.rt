@@ -3,10 +3,10 @@
 use crate::tests::receive::calls::both::{Both, Step};
 use crate::tests::steps::{RxNamed, rx_step};
 use crate::tests::wanted::{holds, same};
+use crate::{Beside, Random, Survey, Walk};
 use ring_model::{ControlStep, RxStep};
 use std::alloc::Global;
 use std::process::Abort;
-use test_kit::{Beside, Random, Survey, Walk};
 
 // A frame of two segments, whose queue is disabled and reclaimed. The request for disabling is not in the list.
 const LIST: &[RxNamed] = &[

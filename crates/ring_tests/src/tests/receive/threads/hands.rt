@@ -2,11 +2,11 @@
 ghost use Rattle.std.specs.Prelude.{◌≡◌, ◌≤◌, true, length};
 ghost use Rattle.rx_ring.specs.Ends.{reclaimed};
 
+use crate::{frame, frame_len, is_frame, put_back};
 use buffer_pool::{Buf, Stash};
 use rx_ring::{Control, ControllerEnd, DriverEnd, Poll, RxControllerEnd, RxDriverEnd, RxRing};
 use std::sync::Wait;
 use std::thread;
-use test_kit::{frame, frame_len, is_frame, put_back};
 
 /// Asks for enabling if nothing was asked in this epoch, or for disabling if the queue was seen enabled.
 fn ask(ring: &RxRing, driver: &mut RxDriverEnd)

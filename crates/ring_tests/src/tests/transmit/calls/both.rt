@@ -9,16 +9,16 @@ ghost use Rattle.tx_ring.specs.Ends.{held as held_by};
 ghost use Rattle.ring_tests.specs.Begun.{AreOfFrame};
 
 use crate::tests::steps::{TxNamed, tx_step};
+use crate::{
+    BUFFERS, Beside, Closed, Random, filled, full_stash, is_filled, put_back, random_control,
+    renewed, shake,
+};
 use buffer_pool::{Buf, Stash};
 use limits::{LEAST_FRAME, MOST_FRAME, MOST_SEGMENTS};
 use ring_machine::{SegmentDescriptor, TxMachine};
 use ring_model::{ControlStep, FetchedSegment, Note, Owner, TxStep};
 use std::alloc::Global;
 use std::process::Abort;
-use test_kit::{
-    BUFFERS, Beside, Closed, Random, filled, full_stash, is_filled, put_back, random_control,
-    renewed, shake,
-};
 use tx_ring::{
     Completion, ControllerEnd, DriverEnd, TxControllerEnd, TxDriverEnd, TxRing, close, meet_tx,
 };

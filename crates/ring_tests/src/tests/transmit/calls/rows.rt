@@ -3,11 +3,11 @@
 use crate::tests::steps::TxNamed;
 use crate::tests::transmit::calls::both::{Both, Step, step_of};
 use crate::tests::wanted::same;
+use crate::{Beside, Tells, disable, enable, makes, told_so};
 use ring_machine::SegmentDescriptor;
 use ring_model::{FetchedSegment, Note, TxStep};
 use std::alloc::Global;
 use std::process::Abort;
-use test_kit::{Beside, Tells, disable, enable, makes, told_so};
 use tx_ring::{Completion, ControllerEnd, DriverEnd, RingError, TxRing};
 
 const BOTH_WAYS: [Completion; 2] = [Completion::Status, Completion::Head];

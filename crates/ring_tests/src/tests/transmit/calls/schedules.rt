@@ -2,9 +2,9 @@
 
 use crate::tests::transmit::calls::both::Both;
 use crate::tests::wanted::{holds, same};
+use crate::{Random, Survey};
 use std::alloc::Global;
 use std::process::Abort;
-use test_kit::{Random, Survey};
 use tx_ring::Completion;
 
 // Runs a thousand schedules on rings of 8 and 16. Returns the first on which the ring and its machine differ.

@@ -2,11 +2,11 @@
 ghost use Rattle.std.specs.Prelude.{◌≡◌, IfSome, Some};
 ghost use Rattle.tx_ring.specs.Ends.{held};
 
+use crate::{frame, frame_len, is_frame, put_back};
 use buffer_pool::{Buf, Stash};
 use descriptor::TxRead;
 use std::sync::Wait;
 use std::thread;
-use test_kit::{frame, frame_len, is_frame, put_back};
 use tx_ring::{Control, ControllerEnd, DriverEnd, TxControllerEnd, TxDriverEnd, TxRing};
 
 /// The fate of frames `0`, `1` and so on, in order.

@@ -3,7 +3,7 @@ use Rattle.buffer_pool.specs.Buffer.{Buffer}
 use Rattle.ring_model.specs.shared.Frames.{join}
 use Rattle.ring_model.specs.transmit.Ring.{carried}
 use Rattle.tx_ring.specs.Records.{TxDriven}
-use Rattle.test_kit.proofs.Begun.{begun_ends, begun_count, begun_bytes}
+use Rattle.ring_tests.proofs.Growing.{begun_ends, begun_count, begun_bytes}
 use Rattle.ring_tests.proofs.Begun.{none_of_frame, same_frame, frame_grows}
 use Rattle.layer_tests.proofs.tests.controllers.transmit.Transmit.post_piece.Goals as goal
 

@@ -2,7 +2,7 @@ use Rattle.std.proofs.Common.{rules, ◌∙◌, ◌+◌, length, ap}
 use Rattle.ring_model.specs.shared.Segments.{piece_of}
 use Rattle.ring_model.specs.shared.Frames.{join}
 use Rattle.rx_ring.specs.Records.{RxControlled}
-use Rattle.test_kit.proofs.Begun.{begun_ends, begun_count, begun_bytes}
+use Rattle.ring_tests.proofs.Growing.{begun_ends, begun_count, begun_bytes}
 use Rattle.ring_tests.proofs.tests.receive.calls.both.Both.store.Goals as goal
 
 pub invariant_of-self-then-eop-clause-counts : goal.invariant_of-self-then-eop-clause-counts

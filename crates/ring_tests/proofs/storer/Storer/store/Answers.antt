@@ -2,8 +2,8 @@ use Rattle.std.proofs.Common.{rules, ◌∙◌, ◌+◌, length, ap}
 use Rattle.ring_model.specs.shared.Segments.{piece_of}
 use Rattle.ring_model.specs.shared.Frames.{join, unfinished}
 use Rattle.rx_ring.specs.Records.{RxControlled}
-use Rattle.test_kit.proofs.Begun.{begun_ends, begun_count, begun_bytes}
-use Rattle.test_kit.proofs.storer.Storer.store.Goals as goal
+use Rattle.ring_tests.proofs.Growing.{begun_ends, begun_count, begun_bytes}
+use Rattle.ring_tests.proofs.storer.Storer.store.Goals as goal
 
 pub invariant_of-self-then-eop-clause-counts : goal.invariant_of-self-then-eop-clause-counts
 invariant_of-self-then-eop-clause-counts c = ap length (begun_ends piece_of _ _ _ (ap (λ (x : RxControlled). x.served) c.write_back.ensures.record) c.if-eop.true)
