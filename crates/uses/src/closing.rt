@@ -12,12 +12,13 @@ use buffer_pool::Stock;
 use rx_ring::{ControllerEnd, DriverEnd, Poll, RxControllerEnd, RxDriverEnd, RxRing, close};
 use std::alloc::Global;
 
-/// Number of frames that go through the ring, and of buffers that are in it at each moment.
+/// How many frames go through the ring.
 const FRAMES: u32 = 10;
 
+/// How many buffers are in the ring between two frames.
 const POSTED: u32 = 3;
 
-/// The numbers of the buffers that were in a closed ring, oldest place first.
+/// The numbers of the buffers that were in a closed ring, in the order of their places.
 pub type Numbers = ArrayVec<u16, 8>;
 
 /// Passes 10 frames through a ring of 8 that holds 3 buffers of a stock of 16, and closes the ring. Returns the stock,
