@@ -23,7 +23,7 @@ use Rattle.commands.specs.Passing.{TookPacket}
 
 pub fresh_ready : (driver : DriverSide) → IsFreshDriver driver → IsReady driver
 fresh_ready driver fresh = record {
-  between = ap (λ es. unfinished piece_of (driving es).given) fresh;
+  between = ap (λ es. unfinished piece_of (driving es).reaped) fresh;
   going = ap (λ es. is_answered (driving es).state) fresh;
   none_back = ap (λ es. (driving es).reclaimed) fresh;
 }
@@ -32,7 +32,7 @@ pub fresh_open : (driver : DriverSide) → IsFreshDriver driver → is_open (dri
 fresh_open driver fresh = ap (λ es. is_open (driving es).state) fresh
 
 pub fresh_takes : (driver : DriverSide) → IsFreshDriver driver → taken driver ≡ []
-fresh_takes driver fresh = ap (λ es. (driving es).given) fresh
+fresh_takes driver fresh = ap (λ es. (driving es).reaped) fresh
 
 enabled_opens : (enabled : Bool) → is_open (if enabled then state.On else state.Asked) ≡ true
 enabled_opens true = refl

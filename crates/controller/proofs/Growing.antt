@@ -21,7 +21,7 @@ use Rattle.controller.proofs.Stepping.{chained-nil, chained-snoc}
 pub record IsStoring (b : ℕ) (f : Bytes) (old : ControllerSide) (rest : Bytes) (now : ControllerSide) : Type 0 where
   pub segments : List (Segment Bytes)
   pub each : Chained StoredSegment old segments now
-  pub grew : controller_record now ≡ record (controller_record old) { served = stored old ++ segments; held = None }
+  pub grew : controller_record now ≡ record (controller_record old) { completed = stored old ++ segments; held = None }
   pub pieces : map piece_of segments ++ cut b rest ≡ cut b f
   pub begun : unfinished piece_of (stored now) ≡ segments
   pub own : now.table ≡ old.table
@@ -32,7 +32,7 @@ begins b f old unheld whole some = record {
   segments = [];
   each = chained-nil StoredSegment old;
   grew = ap (λ (h : Option Buffer). record (controller_record old) { held = h }) unheld
-      ∙ ap (λ (l : List (Segment Bytes)). record (controller_record old) { served = l; held = None }) (sym (append-nil (stored old)));
+      ∙ ap (λ (l : List (Segment Bytes)). record (controller_record old) { completed = l; held = None }) (sym (append-nil (stored old)));
   pieces = refl;
   begun = whole;
   own = refl;
@@ -40,12 +40,12 @@ begins b f old unheld whole some = record {
 }
 
 -- the record after one more segment
-grown : (old now new : ControllerSide) (segments : List (Segment Bytes)) (s : Segment Bytes) → controller_record now ≡ record (controller_record old) { served = stored old ++ segments; held = None }
-    → controller_record new ≡ record (controller_record now) { served = stored now ++ s ∷ []; held = None }
-    → controller_record new ≡ record (controller_record old) { served = stored old ++ (segments ++ s ∷ []); held = None }
+grown : (old now new : ControllerSide) (segments : List (Segment Bytes)) (s : Segment Bytes) → controller_record now ≡ record (controller_record old) { completed = stored old ++ segments; held = None }
+    → controller_record new ≡ record (controller_record now) { completed = stored now ++ s ∷ []; held = None }
+    → controller_record new ≡ record (controller_record old) { completed = stored old ++ (segments ++ s ∷ []); held = None }
 grown old now new segments s was e = e
-    ∙ (ap (λ (x : RxControlled). record x { served = x.served ++ s ∷ []; held = None }) was
-    ∙ ap (λ (l : List (Segment Bytes)). record (controller_record old) { served = l; held = None }) (append_assoc (stored old) segments (s ∷ [])))
+    ∙ (ap (λ (x : RxControlled). record x { completed = x.completed ++ s ∷ []; held = None }) was
+    ∙ ap (λ (l : List (Segment Bytes)). record (controller_record old) { completed = l; held = None }) (append_assoc (stored old) segments (s ∷ [])))
 
 stepped : (old new : ControllerSide) (s : Segment Bytes) → StoredSegment old s new → new.table ≡ old.table
 stepped old new s st = ap (λ (c : ControllerSide). c.table) st.step
@@ -62,7 +62,7 @@ goes_on b f old now new rest piece more pos i h front back st =
       each = chained-snoc StoredSegment old i.segments now s new i.each st.stored;
       grew = grown old now new i.segments s i.grew st.stored.grew;
       pieces = ap (λ (l : List Piece). l ++ cut b more) (map-append piece_of i.segments (s ∷ [])) ∙ (append_assoc (map piece_of i.segments) (piece_of s ∷ []) (cut b more) ∙ (ap (λ (l : List Piece). map piece_of i.segments ++ l) first ∙ i.pieces));
-      begun = ap (λ (x : RxControlled). unfinished piece_of x.served) st.stored.grew ∙ (unfinished-snoc piece_of (stored now) s ∙ ap (λ (l : List (Segment Bytes)). l ++ s ∷ []) i.begun);
+      begun = ap (λ (x : RxControlled). unfinished piece_of x.completed) st.stored.grew ∙ (unfinished-snoc piece_of (stored now) s ∙ ap (λ (l : List (Segment Bytes)). l ++ s ∷ []) i.begun);
       own = stepped now new s st.stored ∙ i.own;
       some = rw back (omega arith);
     }
@@ -80,7 +80,7 @@ can_store_next b f old now rest p others can free i first =
     let count = length-cut b f in
     let below = at.count in
     let longer = length-append (stored old) i.segments in
-    let known : known_free now ≡ (controller_record old).known - length (stored old ++ i.segments) = ap (λ (x : RxControlled). x.known - length x.served) i.grew in
+    let known : known_free now ≡ (controller_record old).known - length (stored old ++ i.segments) = ap (λ (x : RxControlled). x.known - length x.completed) i.grew in
     record {
       unheld = ap (λ (x : RxControlled). x.held) i.grew;
       free = omega arith;
@@ -113,8 +113,8 @@ ends_frame_with b f old now last new rest pos some whole i h st head e =
     let s : Segment Bytes = record { number = st.number; payload = rest; eop = true } in
     let all = i.segments ++ s ∷ [] in
     let pieces : map piece_of all ≡ cut b f = map-append piece_of i.segments (s ∷ []) ∙ (ap (λ (l : List Piece). map piece_of i.segments ++ l) (sym (cut-last b rest i.some h)) ∙ i.pieces) in
-    let grew : controller_record last ≡ record (controller_record old) { served = stored old ++ all; held = None } = grown old now last i.segments s i.grew st.stored.grew in
-    let after : stored new ≡ stored old ++ all = ap (λ (x : RxControlled). x.served) e ∙ ap (λ (x : RxControlled). x.served) grew in
+    let grew : controller_record last ≡ record (controller_record old) { completed = stored old ++ all; held = None } = grown old now last i.segments s i.grew st.stored.grew in
+    let after : stored new ≡ stored old ++ all = ap (λ (x : RxControlled). x.completed) e ∙ ap (λ (x : RxControlled). x.completed) grew in
     let done = whole_frame b f (stored old) all pos some whole pieces in
     let same : new.table ≡ last.table = ap (λ (c : ControllerSide). c.table) head in (
       record {
@@ -129,7 +129,7 @@ ends_frame_with b f old now last new rest pos some whole i h st head e =
       record {
         unheld = ap (λ (x : RxControlled). x.held) e ∙ ap (λ (x : RxControlled). x.held) grew;
         between = unfinished-whole piece_of (stored new) (ap (unfinished piece_of) after ∙ done.1);
-        head = ap (λ (x : RxControlled). x.head) e ∙ (ap (λ (x : RxControlled). length x.served % controller_size last) (sym e) ∙ ap (λ (t : TableId). length (stored new) % t.slots) (sym same));
+        head = ap (λ (x : RxControlled). x.head) e ∙ (ap (λ (x : RxControlled). length x.completed % controller_size last) (sym e) ∙ ap (λ (t : TableId). length (stored new) % t.slots) (sym same));
       },
       same ∙ (stepped now last s st.stored ∙ i.own),
     )

@@ -20,7 +20,7 @@ use Rattle.controller.proofs.Stepping.{chained-nil, chained-snoc}
 pub record IsSending (old : ControllerSide) (arena : Laid) (now : ControllerSide) (arena' : Laid) : Type 0 where
   pub postings : List Posting
   pub each : Chained SentSegment old postings now
-  pub grew : controller_record now ≡ record (controller_record old) { served = sent old ++ postings; held = None; head = head_stored now; barred = false }
+  pub grew : controller_record now ≡ record (controller_record old) { completed = sent old ++ postings; held = None; head = head_stored now; barred = false }
   pub begun : unfinished carried (sent now) ≡ postings
   pub frames_same : frames carried (sent now) ≡ frames carried (sent old)
   pub can : CanSend now arena'
@@ -35,7 +35,7 @@ starts old arena unheld paid whole serving ready begun room = record {
   each = chained-nil SentSegment old;
   grew = ap (λ (h : Option Buffer). record (controller_record old) { held = h }) unheld
       ∙ (ap (λ (b : Bool). record (controller_record old) { held = None; barred = b }) paid
-      ∙ ap (λ (l : List Posting). record (controller_record old) { served = l; held = None; barred = false }) (sym (append-nil (sent old))));
+      ∙ ap (λ (l : List Posting). record (controller_record old) { completed = l; held = None; barred = false }) (sym (append-nil (sent old))));
   begun = whole;
   frames_same = refl;
   can = record {
@@ -71,18 +71,18 @@ own_table old new p st = ap (λ (c : ControllerSide). c.table) st.step
 
 -- the record after one more posting, which asks for a report or not
 grown : (old now new : ControllerSide) (postings : List Posting) (p : Posting) (owed : Bool)
-    → controller_record now ≡ record (controller_record old) { served = sent old ++ postings; held = None; head = head_stored now; barred = false }
-    → controller_record new ≡ record (controller_record now) { served = sent now ++ p ∷ []; held = None; head = head_stored new; barred = owed }
-    → controller_record new ≡ record (controller_record old) { served = sent old ++ (postings ++ p ∷ []); held = None; head = head_stored new; barred = owed }
+    → controller_record now ≡ record (controller_record old) { completed = sent old ++ postings; held = None; head = head_stored now; barred = false }
+    → controller_record new ≡ record (controller_record now) { completed = sent now ++ p ∷ []; held = None; head = head_stored new; barred = owed }
+    → controller_record new ≡ record (controller_record old) { completed = sent old ++ (postings ++ p ∷ []); held = None; head = head_stored new; barred = owed }
 grown old now new postings p owed was e = e
-    ∙ (ap (λ (x : TxControlled). record x { served = x.served ++ p ∷ []; held = None; head = head_stored new; barred = owed }) was
-    ∙ ap (λ (l : List Posting). record (controller_record old) { served = l; held = None; head = head_stored new; barred = owed }) (append_assoc (sent old) postings (p ∷ [])))
+    ∙ (ap (λ (x : TxControlled). record x { completed = x.completed ++ p ∷ []; held = None; head = head_stored new; barred = owed }) was
+    ∙ ap (λ (l : List Posting). record (controller_record old) { completed = l; held = None; head = head_stored new; barred = owed }) (append_assoc (sent old) postings (p ∷ [])))
 
 -- one more is sent, and the frame goes on
 pub sends_on : (old now new : ControllerSide) (arena arena' arena'' : Laid) → IsSending old arena now arena' → SentBytes now arena' false new arena'' → IsSending old arena new arena''
 sends_on old now new arena arena' arena'' i st =
     let p = st.posting in
-    let more : sent new ≡ sent now ++ p ∷ [] = ap (λ (x : TxControlled). x.served) st.same in
+    let more : sent new ≡ sent now ++ p ∷ [] = ap (λ (x : TxControlled). x.completed) st.same in
     let begun : unfinished carried (sent new) ≡ unfinished carried (sent now) ++ p ∷ [] = ap (unfinished carried) more ∙ unfinished_more (sent now) p false st.ends_is in
     let bytes : arena''.begun ≡ join carried (unfinished carried (sent new)) = st.begun ∙ (ap (λ (b : Bytes). b ++ p.payload) i.can.begun ∙ (sym (join_more (unfinished carried (sent now)) p) ∙ sym (ap (join carried) begun))) in
     let longer = ap length st.begun ∙ length-append arena'.begun p.payload in
@@ -95,7 +95,7 @@ sends_on old now new arena arena' arena'' i st =
       postings = i.postings ++ p ∷ [];
       each = chained-snoc SentSegment old i.postings now p new i.each st.sent_it;
       grew = grown old now new i.postings p p.rs i.grew st.same
-          ∙ ap (λ (b : Bool). record (controller_record old) { served = sent old ++ (i.postings ++ p ∷ []); held = None; head = head_stored new; barred = b }) none;
+          ∙ ap (λ (b : Bool). record (controller_record old) { completed = sent old ++ (i.postings ++ p ∷ []); held = None; head = head_stored new; barred = b }) none;
       begun = begun ∙ ap (λ (l : List Posting). l ++ p ∷ []) i.begun;
       frames_same = ap (frames carried) more ∙ (frames_more (sent now) p false st.ends_is ∙ (append-nil (frames carried (sent now)) ∙ i.frames_same));
       can = record {
@@ -125,7 +125,7 @@ pub sends_last : (old now last new : ControllerSide) (arena arena' arena'' wire 
 sends_last old now last new arena arena' arena'' wire i st on_wire begun report same =
     let p = st.posting in
     let all = i.postings ++ p ∷ [] in
-    let more : sent last ≡ sent now ++ p ∷ [] = ap (λ (x : TxControlled). x.served) st.same in
+    let more : sent last ≡ sent now ++ p ∷ [] = ap (λ (x : TxControlled). x.completed) st.same in
     let bytes : arena''.begun ≡ join carried all = st.begun ∙ (ap (λ (b : Bytes). b ++ p.payload) (i.can.begun ∙ ap (join carried) i.begun) ∙ sym (join_more i.postings p)) in
     let owed : is_owed last ≡ asks all = ap (λ (x : TxControlled). x.barred) st.same ∙ sym (asks-snoc false i.postings p) in
     record {
@@ -137,8 +137,8 @@ sends_last old now last new arena arena' arena'' wire i st on_wire begun report 
         report = report ∙ ap (λ (b : Bool). reported b last) owed;
         bytes = bytes;
         grew = same ∙ (ap (λ (x : TxControlled). record x { barred = false }) (grown old now last i.postings p p.rs i.grew st.same)
-            ∙ ap (λ (h : ℕ). record (controller_record old) { served = sent old ++ all; held = None; head = h; barred = false }) st.head);
-        frames_are = ap (frames carried) (ap (λ (x : TxControlled). x.served) same ∙ more) ∙ (frames_more (sent now) p true st.ends_is
+            ∙ ap (λ (h : ℕ). record (controller_record old) { completed = sent old ++ all; held = None; head = h; barred = false }) st.head);
+        frames_are = ap (frames carried) (ap (λ (x : TxControlled). x.completed) same ∙ more) ∙ (frames_more (sent now) p true st.ends_is
             ∙ (ap (λ (l : List Bytes). l ++ join carried (unfinished carried (sent now) ++ p ∷ []) ∷ []) i.frames_same
             ∙ ap (λ (f : Bytes). frames carried (sent old) ++ f ∷ []) (ap (λ (l : List Posting). join carried (l ++ p ∷ [])) i.begun ∙ sym bytes)));
       };
@@ -149,7 +149,7 @@ sends_last old now last new arena arena' arena'' wire i st on_wire begun report 
 
 -- what was sent is whole
 pub sent_whole : (now last : ControllerSide) (arena' arena'' : Laid) → SentBytes now arena' true last arena'' → is_between last ≡ true
-sent_whole now last arena' arena'' st = unfinished-whole carried (sent last) (ap (λ (x : TxControlled). unfinished carried x.served) st.same ∙ unfinished_more (sent now) st.posting true st.ends_is)
+sent_whole now last arena' arena'' st = unfinished-whole carried (sent last) (ap (λ (x : TxControlled). unfinished carried x.completed) st.same ∙ unfinished_more (sent now) st.posting true st.ends_is)
 
 -- the head stays where it is stored, as long as nothing is sent
 pub same_head : (old new : ControllerSide) → head_stored old ≡ serve_place old → new.table ≡ old.table → head_stored new ≡ head_stored old → sent new ≡ sent old → head_stored new ≡ serve_place new

@@ -9,7 +9,7 @@ use Rattle.shared_ring.specs.Ends.{ControllerSide, controller_record, controller
 use Rattle.shared_ring.specs.Forms.{Form}
 use Rattle.shared_ring.specs.Words.{control_word}
 
-module _ {Ring Posted Served Given D C : Type 0} {form : Form Ring Posted Served Given D C} where
+module _ {Ring Posted Completed Reaped D C : Type 0} {form : Form Ring Posted Completed Reaped D C} where
   -- C2: this request was loaded and not answered.
   pub record OnlyLoaded (asked : Control) (old : ControllerSide form) (told : Control) (new : ControllerSide form) : Type 0 where
     pub told_is : told ≡ asked
@@ -20,7 +20,7 @@ module _ {Ring Posted Served Given D C : Type 0} {form : Form Ring Posted Served
   pub record WasEnabled (old : ControllerSide form) (told : Control) (new : ControllerSide form) : Type 0 where
     pub told_is : told ≡ control.Enabled
     pub step : new ≡ controller_grown (controller_grown old (LoadedRequest 1)) Enabled
-    pub fresh : controller_record new ≡ record (controller_record old) { served = []; known = 0; head = 0; state = Serving; seen = 2; barred = false }
+    pub fresh : controller_record new ≡ record (controller_record old) { completed = []; known = 0; head = 0; state = Serving; seen = 2; barred = false }
 
   -- C2 and C3: a disabling was loaded and answered. Nothing more is served in this epoch.
   pub record WasDisabled (old : ControllerSide form) (told : Control) (new : ControllerSide form) : Type 0 where

@@ -44,7 +44,7 @@ needed r f = piece_count r.bsize (length f)
 pub record StoredSegment (old : ControllerSide) (s : Segment Bytes) (new : ControllerSide) : Type 0 where
   pub step : new ≡ controller_grown (controller_grown old (Fetched (serve_place old) 0 (buffer s.number [])))
       (Own (WroteBack (serve_place old) (rx_word (length s.payload) s.eop) (buffer s.number s.payload)))
-  pub grew : controller_record new ≡ record (controller_record old) { served = stored old ++ s ∷ []; held = None }
+  pub grew : controller_record new ≡ record (controller_record old) { completed = stored old ++ s ∷ []; held = None }
 
 -- At least `count` descriptors are known to be free.
 pub record KnewRoom (old : ControllerSide) (count : ℕ) (new : ControllerSide) : Type 0 where
@@ -72,7 +72,7 @@ pub record StoredFrame (b : ℕ) (f : Bytes) (old new : ControllerSide) : Type 0
   pub each : Chained StoredSegment old segments last
   pub head : new ≡ controller_grown last (StoredHead (serve_place last))
   pub pieces : map piece_of segments ≡ cut b f
-  pub grew : controller_record new ≡ record (controller_record old) { served = stored old ++ segments; held = None; head = serve_place last }
+  pub grew : controller_record new ≡ record (controller_record old) { completed = stored old ++ segments; held = None; head = serve_place last }
   pub frames_are : frames piece_of (stored new) ≡ frames piece_of (stored old) ++ f ∷ []
 
 -- The results of `offer`. Refused: no frame has this length.

@@ -25,7 +25,7 @@ pub record SentBytes (old : ControllerSide) (arena : Laid) (ends : Bool) (new : 
   pub sent_it : SentSegment old posting new
   pub follows : MayFollow (controller_size old) (unfinished carried (sent old)) posting
   pub ends_is : posting.eop ≡ ends
-  pub same : controller_record new ≡ record (controller_record old) { served = sent old ++ posting ∷ []; held = None; head = (controller_record new).head; barred = posting.rs }
+  pub same : controller_record new ≡ record (controller_record old) { completed = sent old ++ posting ∷ []; held = None; head = (controller_record new).head; barred = posting.rs }
   pub head : head_stored new ≡ serve_place new
   pub ready : ends ≡ false → 1 < known_ready old
   pub frames : arena'.frames ≡ arena.frames

@@ -47,7 +47,7 @@ pub record SentFrame (old : ControllerSide) (f : Bytes) (new : ControllerSide) :
   pub each : Chained SentSegment old postings last
   pub report : new ≡ reported (asks postings) last
   pub bytes : f ≡ join carried postings
-  pub grew : controller_record new ≡ record (controller_record old) { served = sent old ++ postings; held = None; head = serve_place last; barred = false }
+  pub grew : controller_record new ≡ record (controller_record old) { completed = sent old ++ postings; held = None; head = serve_place last; barred = false }
   pub frames_are : frames carried (sent new) ≡ frames carried (sent old) ++ f ∷ []
 
 -- The results of `turn`. Off: the end does not serve.

@@ -5,11 +5,12 @@ use Rattle.limits.specs.declared.profile.TheConstants.{BUFFER_BYTES}
 use Rattle.refusals.specs.declared.errors.DescError.{DescError}
 use Rattle.refusals.specs.declared.errors.DescError.TheVariants.{Length, Reserved, Kind, Size}
 use Rattle.descriptor.specs.declared.rx_back.RxBack.{RxBack}
-use Rattle.descriptor.specs.Layout.{KeepsWords, word_of, bit, bit_lt}
+use Rattle.descriptor.specs.Layout.{KeepsWords, word_of, bit}
 use Rattle.descriptor.specs.Receive.{rx_back_form, rx_back_numbers, rx_back_first, rx_back_second}
 use Rattle.descriptor.proofs.Fields.{IsWhole, IsNarrow, IsKept, AreSame, settled, word_of-settled}
 use Rattle.descriptor.proofs.Codec.{IsCodec, lowest-reserved, words-accepted, words-refused}
 use Rattle.descriptor.proofs.Refusals.{Decodes}
+use Rattle.descriptor.specs.Bounds.{bit_lt}
 use Rattle.descriptor.proofs.Bits.{bit-same}
 
 rx_back-whole : IsWhole rx_back_form

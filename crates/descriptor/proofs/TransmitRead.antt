@@ -7,9 +7,10 @@ use Rattle.refusals.specs.declared.errors.DescError.TheVariants.{Length, Reserve
 use Rattle.descriptor.specs.declared.tx_read.TxRead.{TxRead}
 use Rattle.descriptor.specs.Address.{address_fields}
 use Rattle.descriptor.specs.Refusal.{IsLowest}
-use Rattle.descriptor.specs.Layout.{KeepsField, KeepsWords, EachField, bit, bit_lt}
+use Rattle.descriptor.specs.Layout.{KeepsField, KeepsWords, EachField, bit}
 use Rattle.descriptor.specs.Transmit.{tx_read_form, tx_read_numbers, tx_read_first, tx_read_second}
 use Rattle.descriptor.proofs.BufferAddress.{address-tiles, address-kept}
+use Rattle.descriptor.specs.Bounds.{bit_lt}
 use Rattle.descriptor.proofs.Bits.{bit-same}
 use Rattle.descriptor.proofs.Codec.{IsCodec, lowest-reserved, lowest-kind, lowest-size, words-accepted, words-refused}
 use Rattle.descriptor.proofs.Fields.{Tiles, IsNarrow, IsKept, AreSame, word_of-settled}

@@ -1,6 +1,5 @@
 -- A descriptor in the datasheet's layout: two words of 64 bits, each divided into adjacent fields.
 use Rattle.std.specs.Prelude.{◌≡◌, ℕ, ◌+◌, ◌*◌, ◌/◌, ◌%◌, ◌^◌, ◌<◌, ◌≤◌, ⊤, Bool, true, false, List, [], ◌∷◌, ◌++◌, length, drop}
-use Rattle.std.proofs.Common.{arith}
 use Rattle.byteorder.specs.Endian.{little_bytes, little_number}
 use Rattle.refusals.specs.declared.errors.DescError.{DescError}
 use Rattle.refusals.specs.declared.errors.DescError.TheVariants.{Length, Reserved, Kind, Size}
@@ -65,10 +64,6 @@ field name first width content = record { name = name; first = first; width = wi
 abbrev pub bit : Bool → ℕ
 bit true = 1
 bit false = 0
-
-pub bit_lt : (b : Bool) → bit b < 2
-bit_lt true = omega arith
-bit_lt false = omega arith
 
 -- ---- the word of a descriptor
 

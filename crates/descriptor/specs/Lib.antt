@@ -1,4 +1,5 @@
 pub mod Address
+pub mod Bounds
 pub mod Layout
 pub mod Receive
 pub mod Refusal

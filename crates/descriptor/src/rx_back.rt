@@ -86,7 +86,8 @@ impl RxBack {
 
 impl Descriptor for RxBack {
     ghost use Rattle.std.proofs.Common.{arith};
-    ghost use Rattle.descriptor.specs.Layout.{AreWords, bit_lt};
+    ghost use Rattle.descriptor.specs.Bounds.{bit_lt};
+    ghost use Rattle.descriptor.specs.Layout.{AreWords};
     ghost use Rattle.descriptor.specs.Receive.{rx_back_form, rx_back_numbers};
 
     ghost form = { rx_back_form };

@@ -152,7 +152,8 @@ impl TxRead {
 
 impl Descriptor for TxRead {
     ghost use Rattle.std.proofs.Common.{arith};
-    ghost use Rattle.descriptor.specs.Layout.{AreWords, bit_lt};
+    ghost use Rattle.descriptor.specs.Bounds.{bit_lt};
+    ghost use Rattle.descriptor.specs.Layout.{AreWords};
     ghost use Rattle.descriptor.specs.Transmit.{tx_read_form, tx_read_numbers};
 
     ghost form = { tx_read_form };

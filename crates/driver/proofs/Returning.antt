@@ -23,7 +23,7 @@ pub from_item : {X : Type 0} (xs : List X) (k : ℕ) (x : X) → slice_get xs k 
 from_item xs k x e = drop-cons xs k x (slice_get_within xs k x e)
     ∙ (ap (λ y. y ∷ drop (suc k) xs) (get_or_from_slice_get xs k x x e) ∙ ap (λ (j : ℕ). x ∷ drop j xs) (sym (add-one k)))
 
-module _ {Ring Posted Served Given D C : Type 0} {form : Form Ring Posted Served Given D C} (number : Posted → ℕ) where
+module _ {Ring Posted Completed Reaped D C : Type 0} {form : Form Ring Posted Completed Reaped D C} (number : Posted → ℕ) where
   with_reclaimed-append : (xs ys : List Buffer) (d : DriverSide form) → with_reclaimed (xs ++ ys) d ≡ with_reclaimed ys (with_reclaimed xs d)
   with_reclaimed-append [] ys d = refl
   with_reclaimed-append (b ∷ xs) ys d = with_reclaimed-append xs ys (driver_grown d (driver.Reclaimed (next_place d) b))
@@ -36,7 +36,7 @@ module _ {Ring Posted Served Given D C : Type 0} {form : Form Ring Posted Served
     numbers = [];
     numbers_are = refl;
     runs = runs-none is_reclaim d;
-    did = ap (λ (k : ℕ). let x : Driven Posted Given = record (driver_record d) { reclaimed = k } in x) (let e : reclaimed d ≡ reclaimed d + 0 = omega arith in e);
+    did = ap (λ (k : ℕ). let x : Driven Posted Reaped = record (driver_record d) { reclaimed = k } in x) (let e : reclaimed d ≡ reclaimed d + 0 = omega arith in e);
     out = refl;
     stash = refl;
   }
@@ -51,20 +51,20 @@ module _ {Ring Posted Served Given D C : Type 0} {form : Form Ring Posted Served
     numbers = f.numbers ++ buf.number ∷ [];
     numbers_are = ap (λ (l : List ℕ). l ++ buf.number ∷ []) f.numbers_are ∙ sym (map-append (λ b. b.number) f.bufs (buf ∷ []));
     runs = runs-trans is_reclaim old d new f.runs (runs-one is_reclaim d new (driver.Reclaimed (next_place d) buf) home.step refl);
-    did = home.same ∙ (ap (λ (x : Driven Posted Given). let y : Driven Posted Given = record x { reclaimed = x.reclaimed + 1 } in y) f.did
-        ∙ ap (λ (k : ℕ). let x : Driven Posted Given = record (driver_record old) { reclaimed = k } in x) (let e = length-append f.numbers (buf.number ∷ []) in let g : reclaimed old + length f.numbers + 1 ≡ reclaimed old + length (f.numbers ++ buf.number ∷ []) = omega arith in g));
+    did = home.same ∙ (ap (λ (x : Driven Posted Reaped). let y : Driven Posted Reaped = record x { reclaimed = x.reclaimed + 1 } in y) f.did
+        ∙ ap (λ (k : ℕ). let x : Driven Posted Reaped = record (driver_record old) { reclaimed = k } in x) (let e = length-append f.numbers (buf.number ∷ []) in let g : reclaimed old + length f.numbers + 1 ≡ reclaimed old + length (f.numbers ++ buf.number ∷ []) = omega arith in g));
     out = f.out ∙ (ap (λ (l : List ℕ). f.numbers ++ l) here ∙ sym (append_assoc f.numbers (buf.number ∷ []) (out_of number new)));
     stash = put ∙ (ap (λ (l : List ℕ). buf.number ∷ l) f.stash ∙ ap (λ (l : List ℕ). l ++ had) (sym (reverse-append f.numbers (buf.number ∷ []))));
   }
     where
       after : returned d + 1 ≡ returned new
-      after = let e = ap (λ (x : Driven Posted Given). length x.given + x.reclaimed) home.same in omega arith
+      after = let e = ap (λ (x : Driven Posted Reaped). length x.reaped + x.reclaimed) home.same in omega arith
 
       here : out_of number d ≡ buf.number ∷ out_of number new
       here = ap (map number) (from_item (posted d) (returned d) home.item home.there)
           ∙ (ap (λ (k : ℕ). k ∷ map number (drop (returned d + 1) (posted d))) is
           ∙ (ap (λ (k : ℕ). buf.number ∷ map number (drop k (posted d))) after
-          ∙ ap (λ (x : Driven Posted Given). buf.number ∷ map number (drop (returned new) x.posted)) (sym home.same)))
+          ∙ ap (λ (x : Driven Posted Reaped). buf.number ∷ map number (drop (returned new) x.posted)) (sym home.same)))
 
       count : length f.numbers ≡ length f.bufs
       count = ap (λ (l : List ℕ). length l) f.numbers_are ∙ length-map f.bufs (λ b. b.number)
@@ -72,17 +72,17 @@ module _ {Ring Posted Served Given D C : Type 0} {form : Form Ring Posted Served
       last : WasOut old (length f.bufs) buf
       last = record {
         item = home.item;
-        there = subst (λ (x : Driven Posted Given). slice_get x.posted (returned old + length f.bufs) ≡ Some home.item) f.did
-            (subst (λ (j : ℕ). slice_get (posted d) j ≡ Some home.item) (let e = ap (λ (x : Driven Posted Given). length x.given + x.reclaimed) f.did in let c = count in let g : returned d ≡ returned old + length f.bufs = omega arith in g) home.there);
+        there = subst (λ (x : Driven Posted Reaped). slice_get x.posted (returned old + length f.bufs) ≡ Some home.item) f.did
+            (subst (λ (j : ℕ). slice_get (posted d) j ≡ Some home.item) (let e = ap (λ (x : Driven Posted Reaped). length x.reaped + x.reclaimed) f.did in let c = count in let g : returned d ≡ returned old + length f.bufs = omega arith in g) home.there);
         is_of = home.is_of;
       }
 
 -- fewer are out
-pub fewer-out : {Ring Posted Served Given D C : Type 0} {form : Form Ring Posted Served Given D C} (d new : DriverSide form) (buf : Buffer) → CameHome d buf new → length (posted new) - returned new < length (posted d) - returned d
+pub fewer-out : {Ring Posted Completed Reaped D C : Type 0} {form : Form Ring Posted Completed Reaped D C} (d new : DriverSide form) (buf : Buffer) → CameHome d buf new → length (posted new) - returned new < length (posted d) - returned d
 fewer-out d new buf f =
     let within = slice_get_within (posted d) (returned d) f.item f.there in
     let many = ap (λ x. length x.posted) f.same in
-    let back = ap (λ x. length x.given + x.reclaimed) f.same in
+    let back = ap (λ x. length x.reaped + x.reclaimed) f.same in
     omega arith
 
 -- what either ring's end says of a buffer that came back

@@ -6,7 +6,7 @@ use Rattle.shared_ring.specs.Ends.{DriverSide, driver_grown}
 use Rattle.shared_ring.specs.Forms.{Form}
 use Rattle.driver.specs.Steps.{Runs}
 
-module _ {Ring Posted Served Given D C : Type 0} {form : Form Ring Posted Served Given D C} (kinds : DriverEvent D → Bool) where
+module _ {Ring Posted Completed Reaped D C : Type 0} {form : Form Ring Posted Completed Reaped D C} (kinds : DriverEvent D → Bool) where
   pub runs-none : (d : DriverSide form) → Runs kinds d d
   runs-none d = record { steps = []; step = ap (λ (es : List (DriverEvent D)). let s : DriverSide form = record d { events = es } in s) (sym (append-nil d.events)); only = All-nil (λ e. kinds e ≡ true) }
 
@@ -25,6 +25,6 @@ module _ {Ring Posted Served Given D C : Type 0} {form : Form Ring Posted Served
   runs-own a b f = ap (λ (s : DriverSide form). s.table) f.step
 
 -- steps of some kinds are steps of more kinds
-pub runs-more : {Ring Posted Served Given D C : Type 0} {form : Form Ring Posted Served Given D C} (some more : DriverEvent D → Bool) (a b : DriverSide form)
+pub runs-more : {Ring Posted Completed Reaped D C : Type 0} {form : Form Ring Posted Completed Reaped D C} (some more : DriverEvent D → Bool) (a b : DriverSide form)
     → ((e : DriverEvent D) → some e ≡ true → more e ≡ true) → Runs some a b → Runs more a b
 runs-more some more a b wider f = record { steps = f.steps; step = f.step; only = λ k d l. wider _ (f.only k d l) }

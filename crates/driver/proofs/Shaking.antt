@@ -24,7 +24,7 @@ asking_other Stopped e = refl
 asking_other Cleared e = refl
 asking_other Tailed e = refl
 
-module _ {Ring Posted Served Given D C : Type 0} {form : Form Ring Posted Served Given D C} where
+module _ {Ring Posted Completed Reaped D C : Type 0} {form : Form Ring Posted Completed Reaped D C} where
   asked_new : (s : DriverState) (d : DriverSide form) → is_new s ≡ true → asked_in s d ≡ driver_grown d driver.AskedEnable
   asked_new New d e = refl
   asked_new _ d e = absurd (false≢true e)
@@ -46,8 +46,8 @@ module _ {Ring Posted Served Given D C : Type 0} {form : Form Ring Posted Served
   enabling-new old mid new word fresh one did step then = record {
     word = word;
     step = step ∙ ap (λ (d : DriverSide form). driver_grown d (driver.LoadedControl word)) (one ∙ sym (asked_new (driver_state old) old fresh));
-    did = then ∙ (ap (λ (x : Driven Posted Given). let y : Driven Posted Given = record x { state = learned x.state word } in y) did
-        ∙ ap (λ (s : DriverState). let y : Driven Posted Given = record (driver_record old) { state = learned s word } in y) (sym (asking_new (driver_state old) fresh)));
+    did = then ∙ (ap (λ (x : Driven Posted Reaped). let y : Driven Posted Reaped = record x { state = learned x.state word } in y) did
+        ∙ ap (λ (s : DriverState). let y : Driven Posted Reaped = record (driver_record old) { state = learned s word } in y) (sym (asking_new (driver_state old) fresh)));
   }
 
   -- C4 alone
@@ -57,5 +57,5 @@ module _ {Ring Posted Served Given D C : Type 0} {form : Form Ring Posted Served
   enabling-asked old new word asked step did = record {
     word = word;
     step = step ∙ ap (λ (d : DriverSide form). driver_grown d (driver.LoadedControl word)) (sym (asked_other (driver_state old) old asked));
-    did = did ∙ ap (λ (s : DriverState). let y : Driven Posted Given = record (driver_record old) { state = learned s word } in y) (sym (asking_other (driver_state old) asked));
+    did = did ∙ ap (λ (s : DriverState). let y : Driven Posted Reaped = record (driver_record old) { state = learned s word } in y) (sym (asking_other (driver_state old) asked));
   }

@@ -12,7 +12,7 @@ abbrev pub asking : DriverState → DriverState
 asking New = Asked
 asking state = state
 
-module _ {Ring Posted Served Given D C : Type 0} {form : Form Ring Posted Served Given D C} where
+module _ {Ring Posted Completed Reaped D C : Type 0} {form : Form Ring Posted Completed Reaped D C} where
   abbrev pub asked_in : DriverState → DriverSide form → DriverSide form
   asked_in New d = driver_grown d driver.AskedEnable
   asked_in _ d = d

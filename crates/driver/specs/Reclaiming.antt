@@ -7,7 +7,7 @@ use Rattle.shared_ring.specs.Ends.{DriverSide, driver_record, posted, reclaimed,
 use Rattle.shared_ring.specs.Forms.{Form}
 use Rattle.driver.specs.Steps.{Runs, is_reclaim}
 
-module _ {Ring Posted Served Given D C : Type 0} {form : Form Ring Posted Served Given D C} where
+module _ {Ring Posted Completed Reaped D C : Type 0} {form : Form Ring Posted Completed Reaped D C} where
   -- The numbers of the buffers that are out, oldest first. `number` is that of a posting.
   abbrev pub out_of : (Posted → ℕ) → DriverSide form → List ℕ
   out_of number d = map number (drop (returned d) (posted d))

@@ -13,7 +13,7 @@ abbrev pub is_reclaim : {D : Type 0} → DriverEvent D → Bool
 is_reclaim (driver.Reclaimed place buf) = true
 is_reclaim _ = false
 
-module _ {Ring Posted Served Given D C : Type 0} {form : Form Ring Posted Served Given D C} where
+module _ {Ring Posted Completed Reaped D C : Type 0} {form : Form Ring Posted Completed Reaped D C} where
   -- The end made steps of these kinds and no others.
   pub record Runs (kinds : DriverEvent D → Bool) (old new : DriverSide form) : Type 0 where
     pub steps : List (DriverEvent D)

@@ -92,7 +92,7 @@ has-ended-as k d e c ended taken known posted cleaned h = record {
 pub closing-rx : (k : DriverKey) (d : Driving) (c : Counts) (ended : Ended) (untaken unsent : ℕ) (rx' : Receiver) (stash stash' : List ℕ) (packets : List (List Buffer)) → IsClosing k d c ended (Some untaken) (Some unsent) → rx'.end.table ≡ d.rx.end.table → GaveBack d.rx stash rx' stash'
     → IsClosing k (driving rx' d.tx stash' packets) c ended (Some untaken) (Some unsent)
 closing-rx k d c ended untaken unsent rx' stash stash' packets h own g =
-    let taken = ap (λ (x : rx.RxDriven). x.given) g.ring.did in record {
+    let taken = ap (λ (x : rx.RxDriven). x.reaped) g.ring.did in record {
       rx_stands = (ap (λ (x : rx.RxDriven). is_stopped x.state) g.ring.did ∙ h.rx_stands.0, rx-same d.rx.end rx'.end own taken g.known ∙ h.rx_stands.1);
       tx_stands = h.tx_stands;
       has_ended = has-ended-as k d (driving rx' d.tx stash' packets) c ended taken g.known refl refl h.has_ended;
@@ -105,7 +105,7 @@ closing-tx k d c ended untaken unsent tx' stash stash' packets h own known g =
     let posted = ap (λ (x : tx.TxDriven). x.posted) g.did in record {
       rx_stands = h.rx_stands;
       tx_stands = (ap (λ (x : tx.TxDriven). is_stopped x.state) g.did ∙ h.tx_stands.0, tx-same d.tx.end tx'.end own posted known ∙ h.tx_stands.1);
-      has_ended = has-ended-as k d (driving d.rx tx' stash' packets) c ended refl refl posted (ap (λ (x : tx.TxDriven). x.given) g.did) h.has_ended;
+      has_ended = has-ended-as k d (driving d.rx tx' stash' packets) c ended refl refl posted (ap (λ (x : tx.TxDriven). x.reaped) g.did) h.has_ended;
     }
 
 -- what is at hand plays no part in it

@@ -132,7 +132,7 @@ given-stash k pass pass' d stash none l pool shared kept = subst (λ (xs : List 
 pub posted-one : (a b c : receive.DriverSide) (n : ℕ) (e : DriverStep) → OnlyPosted a b → c ≡ receive.driver_grown b e → receive.driver_record c ≡ record (receive.driver_record b) { posted = receive.posted b ++ n ∷ [] } → OnlyPosted a c
 posted-one a b c n e o step did = record {
   own = ap (λ (d : receive.DriverSide). d.table) step ∙ o.own;
-  taken = ap (λ (x : RxDriven). x.given) did ∙ o.taken;
+  taken = ap (λ (x : RxDriven). x.reaped) did ∙ o.taken;
   none_back = ap (λ (x : RxDriven). x.reclaimed) did ∙ o.none_back;
   state = ap (λ (x : RxDriven). x.state) did ∙ o.state;
 }

@@ -18,11 +18,11 @@ pub record AreLedgers (n : ℕ) (r : FlowReport) : Type 0 where
   pub sent : TxLedger Bytes
   pub lawful_received : IsLawfulRxLedger Bytes n received
   pub lawful_sent : IsLawfulTxLedger Bytes n sent
-  pub stored : r.stored ≡ length (frames piece_of received.served)
-  pub taken : r.taken ≡ length (frames piece_of received.given)
+  pub stored : r.stored ≡ length (frames piece_of received.completed)
+  pub taken : r.taken ≡ length (frames piece_of received.reaped)
   pub posted : r.posted ≡ length (frames carried sent.posted)
-  pub wire : r.wire ≡ frames carried sent.served
-  pub left : length received.given + length sent.served + r.left ≡ length received.served + length sent.posted
+  pub wire : r.wire ≡ frames carried sent.completed
+  pub left : length received.reaped + length sent.completed + r.left ≡ length received.completed + length sent.posted
 
 -- Each frame of the flow was offered, each stored frame was taken and then posted or dropped, and each posted frame is
 -- on the wire.

@@ -29,8 +29,8 @@ pub drives_asked : (ring : TableId) (old new : DriverSide) (chain chain' : List 
 drives_asked ring old new chain chain' list own same asked had = rw same (record {
   own = own ∙ had.own;
   not_shut = stays_open old new asked had.not_shut;
-  segments = ap (λ r. r.given) asked.did ∙ had.segments;
-  frames_are = ap (λ r. frames piece_of r.given) asked.did ∙ had.frames_are;
+  segments = ap (λ r. r.reaped) asked.did ∙ had.segments;
+  frames_are = ap (λ r. frames piece_of r.reaped) asked.did ∙ had.frames_are;
 })
 
 -- a batch of a queue that is on

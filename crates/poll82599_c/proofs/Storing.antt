@@ -43,5 +43,5 @@ stored_found bytes eop old ready new free looked w = record {
   ready = ready;
   knew = inr (free, looked);
   wrote = w;
-  grew = w.grew ∙ ap (λ (x : RxControlled). x.served ++ record { number = w.number; payload = bytes; eop = eop } ∷ []) looked.same;
+  grew = w.grew ∙ ap (λ (x : RxControlled). x.completed ++ record { number = w.number; payload = bytes; eop = eop } ∷ []) looked.same;
 }

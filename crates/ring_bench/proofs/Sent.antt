@@ -62,26 +62,26 @@ supplies-post stock left n x p s took goes =
     let fewer : length stock.numbers ≡ length left.numbers + 1 = ap (λ (t : Stocked). length t.numbers) took ∙ omega arith in
     let few = s.few in let enough = s.enough in record {
       few = omega arith;
-      shares = subst (Shares left) (sym (numbers_out-snoc x.posted p (length x.given) few)) (shares-turned left p.number (numbers_out (length x.given) x.posted) (goes (numbers_out (length x.given) x.posted) s.shares));
+      shares = subst (Shares left) (sym (numbers_out-snoc x.posted p (length x.reaped) few)) (shares-turned left p.number (numbers_out (length x.reaped) x.posted) (goes (numbers_out (length x.reaped) x.posted) s.shares));
       enough = omega arith;
     }
 
 -- the oldest that is out is cleaned, and its buffer given back to the stock
-pub supplies-clean : (stock more : Stocked) (n : ℕ) (x : TxDriven) (p : Posting) → Supplies stock n x → slice_get x.posted (length x.given) ≡ Some p → more ≡ with_number stock p.number
-    → ((out : List ℕ) → Shares stock (p.number ∷ out) → Shares more out) → Supplies more n (record x { given = x.given ++ p.number ∷ [] })
+pub supplies-clean : (stock more : Stocked) (n : ℕ) (x : TxDriven) (p : Posting) → Supplies stock n x → slice_get x.posted (length x.reaped) ≡ Some p → more ≡ with_number stock p.number
+    → ((out : List ℕ) → Shares stock (p.number ∷ out) → Shares more out) → Supplies more n (record x { reaped = x.reaped ++ p.number ∷ [] })
 supplies-clean stock more n x p s there gave comes =
-    let grew : length (x.given ++ p.number ∷ []) ≡ length x.given + 1 = length-append x.given (p.number ∷ []) in
-    let next : length (x.given ++ p.number ∷ []) ≡ suc (length x.given) = omega arith in
+    let grew : length (x.reaped ++ p.number ∷ []) ≡ length x.reaped + 1 = length-append x.reaped (p.number ∷ []) in
+    let next : length (x.reaped ++ p.number ∷ []) ≡ suc (length x.reaped) = omega arith in
     let fewer : length more.numbers ≡ length stock.numbers + 1 = ap (λ (t : Stocked). length t.numbers) gave ∙ omega arith in
-    let within = slice_get_within x.posted (length x.given) p there in let enough = s.enough in record {
+    let within = slice_get_within x.posted (length x.reaped) p there in let enough = s.enough in record {
       few = omega arith;
-      shares = subst (λ (back : ℕ). Shares more (numbers_out back x.posted)) (sym next) (comes (numbers_out (suc (length x.given)) x.posted) (subst (Shares stock) (numbers_out-next x.posted p (length x.given) there) s.shares));
+      shares = subst (λ (back : ℕ). Shares more (numbers_out back x.posted)) (sym next) (comes (numbers_out (suc (length x.reaped)) x.posted) (subst (Shares stock) (numbers_out-next x.posted p (length x.reaped) there) s.shares));
       enough = omega arith;
     }
 
 -- the buffer that is cleaned next belongs to the stock
-pub out-next : (stock : Stocked) (n : ℕ) (x : TxDriven) (p : Posting) → Supplies stock n x → slice_get x.posted (length x.given) ≡ Some p → IsOut stock p.number
-out-next stock n x p s there = IsOut-from_Shares stock p.number (numbers_out (suc (length x.given)) x.posted) (subst (Shares stock) (numbers_out-next x.posted p (length x.given) there) s.shares)
+pub out-next : (stock : Stocked) (n : ℕ) (x : TxDriven) (p : Posting) → Supplies stock n x → slice_get x.posted (length x.reaped) ≡ Some p → IsOut stock p.number
+out-next stock n x p s there = IsOut-from_Shares stock p.number (numbers_out (suc (length x.reaped)) x.posted) (subst (Shares stock) (numbers_out-next x.posted p (length x.reaped) there) s.shares)
 
 -- the frame is posted once more
 posted-after : (plan : TxPlan) (frame : Bytes) (x : TxDriven) (p : Posting) → HasPosted plan frame x → IsWhole frame (carried p) → p.rs ≡ asks_after plan (length x.posted)
@@ -136,7 +136,7 @@ polled-same old false new saw = ⊎_elim
 
 pub polled-only : (old : DriverSide) (found : Bool) (new : DriverSide) → Polled old found new → OnlyCleaned old new
 polled-only old found new saw = let s = polled-same old found new saw in
-    record { one_ring = s.0; one_way = s.1.0; same = s.1.1 ∙ ap (λ (l : List ℕ). record (driver_record old) { given = l }) (sym (ap (λ (x : TxDriven). x.given) s.1.1)) }
+    record { one_ring = s.0; one_way = s.1.0; same = s.1.1 ∙ ap (λ (l : List ℕ). record (driver_record old) { reaped = l }) (sym (ap (λ (x : TxDriven). x.reaped) s.1.1)) }
 
 pub polled-supplies : (old : DriverSide) (found : Bool) (new : DriverSide) (stock : Stocked) → Polled old found new → Supplies stock (driver_size old) (driver_record old)
     → Supplies stock (driver_size new) (driver_record new)
@@ -149,12 +149,12 @@ polled-live old false new saw e = absurd (false≢true e)
 
 -- one more is cleaned
 pub only_cleaned-next : (first old new : DriverSide) (numbers : List ℕ) → OnlyCleaned first old → new.table ≡ old.table → new.completion ≡ old.completion
-    → driver_record new ≡ record (driver_record old) { given = numbers } → OnlyCleaned first new
+    → driver_record new ≡ record (driver_record old) { reaped = numbers } → OnlyCleaned first new
 only_cleaned-next first old new numbers only table way did =
-    let now : cleaned new ≡ numbers = ap (λ (x : TxDriven). x.given) did in record {
+    let now : cleaned new ≡ numbers = ap (λ (x : TxDriven). x.reaped) did in record {
       one_ring = table ∙ only.one_ring;
       one_way = way ∙ only.one_way;
-      same = did ∙ (ap (λ (x : TxDriven). record x { given = numbers }) only.same ∙ ap (λ (l : List ℕ). record (driver_record first) { given = l }) (sym now));
+      same = did ∙ (ap (λ (x : TxDriven). record x { reaped = numbers }) only.same ∙ ap (λ (l : List ℕ). record (driver_record first) { reaped = l }) (sym now));
     }
 
 pub under_way-clean : (ring : TableId) (frame : Bytes) (old new : DriverSide) (stock more : Stocked) (course : Progress) → IsUnderWay ring frame old stock course → OnlyCleaned old new

@@ -4,10 +4,10 @@ use Rattle.atomic_table.specs.Seated.{TableId}
 use Rattle.ring_model.specs.declared.states.Completion.{Completion}
 use Rattle.ring_model.specs.declared.states.DriverState.TheVariants.{On}
 use Rattle.ring_model.specs.shared.Handshakes.{is_new, is_serving}
-use Rattle.shared_ring.specs.Ends.{DriverSide, driver_record, driver_state, ControllerSide, served, held, controller_state, is_barred}
+use Rattle.shared_ring.specs.Ends.{DriverSide, driver_record, driver_state, ControllerSide, completed, held, controller_state, is_barred}
 use Rattle.shared_ring.specs.Forms.{Form}
 
-module _ {Ring Posted Served Given D C : Type 0} {form : Form Ring Posted Served Given D C} where
+module _ {Ring Posted Completed Reaped D C : Type 0} {form : Form Ring Posted Completed Reaped D C} where
   -- the driver has not asked for its queue to be enabled
   pub record CanAsk (ring : TableId) (driver : DriverSide form) : Type 0 where
     pub own : driver.table ≡ ring
@@ -29,7 +29,7 @@ module _ {Ring Posted Served Given D C : Type 0} {form : Form Ring Posted Served
   pub record HasBegun (ring : TableId) (way : Completion) (controller : ControllerSide form) : Type 0 where
     pub own : controller.table ≡ ring
     pub reports : controller.completion ≡ way
-    pub none_served : served controller ≡ []
+    pub none_completed : completed controller ≡ []
     pub none_held : held controller ≡ None
     pub serving : is_serving (controller_state controller) ≡ true
     pub not_barred : is_barred controller ≡ false

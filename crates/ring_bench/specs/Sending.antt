@@ -63,9 +63,9 @@ pub record CanPost (ring : TableId) (plan : TxPlan) (frame : Bytes) (driver : Dr
 
 -- the stock has all its buffers but those that are posted and not cleaned, at least one for each of the ring's n places
 pub record Supplies (stock : Stocked) (n : ℕ) (did : TxDriven) : Type 0 where
-  pub few : length did.given ≤ length did.posted
-  pub shares : Shares stock (map number_of_posting (drop (length did.given) did.posted))
-  pub enough : n + length did.given ≤ length stock.numbers + length did.posted
+  pub few : length did.reaped ≤ length did.posted
+  pub shares : Shares stock (map number_of_posting (drop (length did.reaped) did.posted))
+  pub enough : n + length did.reaped ≤ length stock.numbers + length did.posted
 
 -- the driver posts the frame at the ring, in buffers of the stock, as far as the course
 pub record IsUnderWay (ring : TableId) (frame : Bytes) (driver : DriverSide) (stock : Stocked) (course : Progress) : Type 0 where
@@ -77,7 +77,7 @@ pub record IsUnderWay (ring : TableId) (frame : Bytes) (driver : DriverSide) (st
 pub record OnlyCleaned (old new : DriverSide) : Type 0 where
   pub one_ring : new.table ≡ old.table
   pub one_way : new.completion ≡ old.completion
-  pub same : driver_record new ≡ record (driver_record old) { given = cleaned new }
+  pub same : driver_record new ≡ record (driver_record old) { reaped = cleaned new }
 
 -- all frames of the plan are posted, and all that is posted is cleaned
 pub record PostedAll (ring : TableId) (plan : TxPlan) (frame : Bytes) (driver : DriverSide) : Type 0 where

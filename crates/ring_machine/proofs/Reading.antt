@@ -13,21 +13,21 @@ use Rattle.ring_machine.specs.declared.moves.Move.TheVariants.{Receive, Transmit
 use Rattle.ring_machine.specs.declared.registers.Registers.{Registers}
 use Rattle.ring_machine.specs.declared.registers.Side.{Side}
 use Rattle.ring_machine.specs.declared.registers.Side.TheVariants as side
-use Rattle.ring_machine.specs.receive.Machine.{RxAgrees, RxParts, lies_rx, says_rx}
-use Rattle.ring_machine.specs.transmit.Machine.{TxAgrees, TxParts, lies_tx, says_tx}
+use Rattle.ring_machine.specs.receive.Machine.{RxAgrees, RxParts, buffer_rx, word_rx}
+use Rattle.ring_machine.specs.transmit.Machine.{TxAgrees, TxParts, buffer_tx, word_tx}
 use Rattle.ring_machine.specs.Queues.{AllAgree, QueueParts}
 use Rattle.ring_machine.specs.Registers.{QueuesRead, registers_held, registers_of}
 use Rattle.ring_machine.proofs.SideBySide.{found-within}
 
-pub registers-agree : {Posted Served Given : Type 0} (s : Side) (ends : Served → Bool) (says : ℕ → Option Posted → Option Served → ℕ) (lies : Option Posted → Option Served → Option ℕ)
-    (w : Wrapped ℕ) (q : Queue Posted Served Given) → Agrees {Given = Given} ends says lies w q → registers_held s w ≡ registers_of s q
-registers-agree s ends says lies w q a = rw (a.head, a.tail, a.handshake) refl
+pub registers-agree : {Posted Completed Reaped : Type 0} (s : Side) (ends : Completed → Bool) (word_of_item : ℕ → Option Posted → Option Completed → ℕ) (buffer_of_item : Option Posted → Option Completed → Option ℕ)
+    (w : Wrapped ℕ) (q : Queue Posted Completed Reaped) → Agrees {Reaped = Reaped} ends word_of_item buffer_of_item w q → registers_held s w ≡ registers_of s q
+registers-agree s ends word_of_item buffer_of_item w q a = rw (a.head, a.tail, a.handshake) refl
 
 rx-registers : (p : RxParts) (r : RxRing ℕ) → RxAgrees p r → registers_held side.Receive p.queue ≡ registers_of side.Receive r.queue
-rx-registers p r a = registers-agree side.Receive ends_segment says_rx lies_rx p.queue r.queue a.queue
+rx-registers p r a = registers-agree side.Receive ends_segment word_rx buffer_rx p.queue r.queue a.queue
 
 tx-registers : (p : TxParts) (r : TxRing ℕ) → TxAgrees p r → registers_held side.Transmit p.queue ≡ registers_of side.Transmit r.queue
-tx-registers p r a = registers-agree side.Transmit ends_posting (says_tx (is_told r)) lies_tx p.queue r.queue a.queue
+tx-registers p r a = registers-agree side.Transmit ends_posting (word_tx (is_told r)) buffer_tx p.queue r.queue a.queue
 
 -- what is read of one of several machines is what is read of the ring of its number
 module _ {A B X : Type 0} (Agree : A → B → Type 0) (of_machine : A → X) (of_ring : B → X) (same : (x : A) (y : B) → Agree x y → of_machine x ≡ of_ring y) where

@@ -67,9 +67,9 @@ module _ {A B : Type 0} (Agree : A → B → Type 0) where
   one_more-agrees (z ∷ zs) y zero x a h = absurd (let e = a.lengths in let bad : ⊥ = cc e in bad)
   one_more-agrees (z ∷ zs) y (suc n) x a h = front-agrees z y (zs ++ x ∷ []) (replicate (suc n) y) (a.each 0 z y refl refl) (one_more-agrees zs y n x (tail-agrees z y zs (replicate n y) a) h)
 
-  pub pushed-agrees : {Given Refused : Type 0} (xs : List A) (y : B) (n : ℕ) (x : A) (after : List A) (result : Result Given Refused) → after ≡ (if is_ok result then xs ++ x ∷ [] else xs) → false ≡ is_err result
+  pub pushed-agrees : {Reaped Refused : Type 0} (xs : List A) (y : B) (n : ℕ) (x : A) (after : List A) (result : Result Reaped Refused) → after ≡ (if is_ok result then xs ++ x ∷ [] else xs) → false ≡ is_err result
       → AllAgree Agree xs (replicate n y) → Agree x y → AllAgree Agree after (replicate (n + 1) y)
-  pushed-agrees xs y n x after (Ok given) e told a h = let longer : suc n ≡ n + 1 = omega arith in
+  pushed-agrees xs y n x after (Ok reaped) e told a h = let longer : suc n ≡ n + 1 = omega arith in
       subst (λ k. AllAgree Agree after (replicate k y)) longer (subst (λ zs. AllAgree Agree zs (replicate (suc n) y)) (sym e) (one_more-agrees xs y n x a h))
   pushed-agrees xs y n x after (Err refused) e told a h = let bad : ⊥ = cc told in absurd bad
 

@@ -1,7 +1,6 @@
 -- The values of a queue's registers: in a machine, and in the world that the machines agree with.
-use Rattle.std.specs.Prelude.{◌≡◌, ℕ, ◌%◌, Option, option_map, slice_get}
+use Rattle.std.specs.Prelude.{◌≡◌, ℕ, ◌%◌, Bool, ◌||◌, ◌==◌, Option, option_map, slice_get}
 use Rattle.ring_model.specs.shared.Agreement.{Wrapped}
-use Rattle.ring_model.specs.shared.Handshakes.{is_serving}
 use Rattle.ring_model.specs.shared.Queue.{Queue}
 use Rattle.ring_model.specs.Worlds.{QueueMove, World}
 use Rattle.ring_model.specs.Worlds as world
@@ -11,13 +10,17 @@ use Rattle.ring_machine.specs.declared.registers.Side.{Side}
 use Rattle.ring_machine.specs.declared.registers.Side.TheVariants.{Receive, Transmit}
 use Rattle.ring_machine.specs.Queues.{QueueParts, QueuesAgree, queue_move}
 
--- The head and tail words, and whether the controller serves.
-abbrev pub registers_held : Side → Wrapped ℕ → Registers
-registers_held side w = record { side = side; head = w.head; tail = w.tail; enable = is_serving w.handshake.controller }
+-- ENABLE, by the control word: it reads as 1 for 2 (enabled) and 3 (disabling asked).
+abbrev pub reads_enabled : ℕ → Bool
+reads_enabled control = (control == 2) || (control == 3)
 
--- The stored head, and the number of published items modulo n.
-abbrev pub registers_of : {Posted Served Given : Type 0} → Side → Queue Posted Served Given → Registers
-registers_of side q = record { side = side; head = q.head; tail = q.published % q.size; enable = is_serving q.handshake.controller }
+-- The head and tail words, and ENABLE.
+abbrev pub registers_held : Side → Wrapped ℕ → Registers
+registers_held side w = record { side = side; head = w.head; tail = w.tail; enable = reads_enabled w.handshake.control }
+
+-- The stored head, the number of published items modulo n, and ENABLE.
+abbrev pub registers_of : {Posted Completed Reaped : Type 0} → Side → Queue Posted Completed Reaped → Registers
+registers_of side q = record { side = side; head = q.head; tail = q.published % q.size; enable = reads_enabled q.handshake.control }
 
 -- The registers of the queue that a move names, if the queue exists.
 abbrev pub registers_in : World → QueueMove → Option Registers

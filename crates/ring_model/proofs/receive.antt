@@ -1,3 +1,3 @@
-pub mod Over
+pub mod Quiesced
 pub mod Stepping
 pub mod Reached

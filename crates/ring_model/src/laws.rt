@@ -2,40 +2,50 @@
 ghost use Rattle.std.specs.Prelude.{◌≡◌, ℕ, ◌<◌, List};
 ghost use Rattle.ring_model.specs.declared.steps.RxStep.{RxStep};
 ghost use Rattle.ring_model.specs.declared.steps.TxStep.{TxStep};
+ghost use Rattle.ring_model.specs.shared.Laws.{ControlFits, IsOrdered};
 ghost use Rattle.ring_model.specs.receive.Ring.{RxRing};
 ghost use Rattle.ring_model.specs.receive.Steps.{IsRxReachable, rx_after_all};
-ghost use Rattle.ring_model.specs.kept.Receive.{IsRxKept};
 ghost use Rattle.ring_model.specs.receive.Lawful.{IsLawfulRx};
 ghost use Rattle.ring_model.specs.receive.Laws.{IsRxConcluded, RxLater};
 ghost use Rattle.ring_model.specs.transmit.Ring.{Posting, TxRing};
 ghost use Rattle.ring_model.specs.transmit.Steps.{IsTxReachable, tx_after_all};
-ghost use Rattle.ring_model.specs.kept.Transmit.{IsTxKept};
 ghost use Rattle.ring_model.specs.transmit.Lawful.{IsLawfulTx};
-ghost use Rattle.ring_model.specs.transmit.Laws.{IsTxConcluded, TxLater};
+ghost use Rattle.ring_model.specs.transmit.Laws.{IsTxConcluded, IsTxOrdered, TxLater};
 ghost use Rattle.ring_model.specs.Worlds.{QueueMove, World, after_move, after_moves, can_move, note_in, IsLawfulWorld, IsLeftAlone, IsReachableWorld, IsStepOfQueue, WorldLater};
 
-/// Every ring of two places or more that a schedule reaches is lawful and concluded, for every payload (bytes, or the
-/// number of bytes) and both ways to report. Its owner map and its ledgers, of this epoch and of ended ones, are
-/// lawful; its counts are in order; and if the driver saw the disabling answered, the controller has ended.
-///
-/// Receive rings: if the controller stores no more, the last frame is whole. After an answered disabling, the head is
-/// the place after the last stored segment until it is cleared. If the quiet word is 1, the controller said so and
-/// stores no more in this epoch.
-///
-/// Transmit rings: published postings end with a whole frame. If the controller answered the disabling, the last frame
-/// is whole, no report is owed, and the head is the place after the last sent segment until it is cleared. If all
-/// postings are cleaned, all were sent, in order.
-///
-/// The invariants of steps (`IsRxKept`, `IsTxKept`) say more: which control words and seen values fit the two states,
-/// that nothing is served before the enabling is answered, that all buffers are back once the head is cleared, and that
-/// of the postings sent and not reported only the last may have asked for a report.
+/// Every ring of two places or more that a schedule reaches is lawful, for every payload (bytes, or the number of bytes)
+/// and both ways to report: its owner map, and its ledgers, of this epoch and of ended ones.
 pub fn rings_are_lawful<Payload>()
     ensures rx_lawful { (n : ℕ) (r : RxRing Payload) → 1 < n → IsRxReachable Payload n r → IsLawfulRx Payload r }
-    ensures rx_concluded { (n : ℕ) (r : RxRing Payload) → 1 < n → IsRxReachable Payload n r → IsRxConcluded r }
-    ensures rx_kept { (n : ℕ) (r : RxRing Payload) → 1 < n → IsRxReachable Payload n r → IsRxKept Payload n r }
     ensures tx_lawful { (n : ℕ) (r : TxRing Payload) → 1 < n → IsTxReachable Payload n r → IsLawfulTx Payload r }
+{}
+
+/// The counts of every reachable ring are in order: what came back was stored or sent, and that was posted; the
+/// controller knows of no more than is published. Nothing is stored or sent before the enabling is answered, and all
+/// buffers are back once the head is cleared. Of a transmit ring: what is cleaned was seen reported, what was seen
+/// reported was reported, and what is reported was sent.
+pub fn counts_are_ordered<Payload>()
+    ensures rx_ordered { (n : ℕ) (r : RxRing Payload) → 1 < n → IsRxReachable Payload n r → IsOrdered r.queue }
+    ensures tx_ordered { (n : ℕ) (r : TxRing Payload) → 1 < n → IsTxReachable Payload n r → IsTxOrdered r }
+{}
+
+/// The control word of every reachable ring, and the value that its controller saw last, fit the states of both sides.
+pub fn control_words_fit<Payload>()
+    ensures rx_control { (n : ℕ) (r : RxRing Payload) → 1 < n → IsRxReachable Payload n r → ControlFits r.handshake.driver r.handshake.controller r.handshake.control r.handshake.seen }
+    ensures tx_control { (n : ℕ) (r : TxRing Payload) → 1 < n → IsTxReachable Payload n r → ControlFits r.handshake.driver r.handshake.controller r.handshake.control r.handshake.seen }
+{}
+
+/// Every reachable ring is concluded. If the driver saw the disabling answered, the controller has ended, and the head
+/// is the place after the last stored or sent segment until it is cleared.
+///
+/// Receive rings: if the controller stores no more, the last frame is whole. If the quiet word is 1, the controller said
+/// so and stores no more in this epoch.
+///
+/// Transmit rings: published postings end with a whole frame. If the controller answered the disabling, the last frame
+/// is whole and no report is owed. If all postings are cleaned, all were sent, in order.
+pub fn rings_are_concluded<Payload>()
+    ensures rx_concluded { (n : ℕ) (r : RxRing Payload) → 1 < n → IsRxReachable Payload n r → IsRxConcluded r }
     ensures tx_concluded { (n : ℕ) (r : TxRing Payload) → 1 < n → IsTxReachable Payload n r → IsTxConcluded r }
-    ensures tx_kept { (n : ℕ) (r : TxRing Payload) → 1 < n → IsTxReachable Payload n r → IsTxKept Payload n r }
 {}
 
 /// Any schedule that continues from a reachable ring reaches a ring of the same length, and the lists of its epoch only

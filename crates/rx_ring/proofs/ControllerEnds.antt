@@ -16,7 +16,7 @@ use Rattle.shared_ring.specs.Slots.{is_there}
 use Rattle.shared_ring.specs.Steps.{CameOut}
 use Rattle.shared_ring.specs.Records.{uncontrolled}
 use Rattle.shared_ring.proofs.Serving as shared
-use Rattle.shared_ring.proofs.Serving.{unplaced, record-after, loaded-leaves, server-fetch, server-served, server-same}
+use Rattle.shared_ring.proofs.Serving.{unplaced, record-after, loaded-leaves, server-fetch, server-completed, server-same}
 use Rattle.rx_ring.specs.declared.events.RxControllerOwn.TheVariants.{WroteBack, SaidQuiet}
 use Rattle.rx_ring.specs.Records.{RxControlled, ControllerStep, control, segment_of}
 use Rattle.rx_ring.specs.Ends.{ControllerSide, controller_size, controller_record, stored, known_free, number_in, held_number, controller_state, serve_place, controller_grown}
@@ -73,15 +73,15 @@ module _ (c : ControllerSide) (at : ControllerPlaces) (head : ℕ) (finished : B
     pub write_back-keeps : (new : ControllerSide) (serve : ℕ) → new ≡ controller_grown c (controller.Own (WroteBack at.serve (rx_word (length buf.bytes) eop) buf)) → serve ≡ (if (at.serve + 1) == controller_size c then 0 else (at.serve + 1))
         → IsControllerEnd new (record at { serve = serve; ahead = at.ahead - 1; holding = false; between = eop }) head finished
     write_back-keeps new serve step e = end-after c new (controller.Own (WroteBack at.serve (rx_word (length buf.bytes) eop) buf)) (record at { serve = serve; ahead = at.ahead - 1; holding = false; between = eop }) head finished step (record {
-      server = server-served piece_of (controller_size c) x at h.server (segment_of (rx_word (length buf.bytes) eop) buf) serve eop holds e (sym (eop_of-rx_word (length buf.bytes) eop)) x.head x.barred;
+      server = server-completed piece_of (controller_size c) x at h.server (segment_of (rx_word (length buf.bytes) eop) buf) serve eop holds e (sym (eop_of-rx_word (length buf.bytes) eop)) x.head x.barred;
       head_is = h.head_is;
       quiet_is = h.quiet_is;
     })
 
-    pub write_back-record : (new : ControllerSide) → new ≡ controller_grown c (controller.Own (WroteBack at.serve (rx_word (length buf.bytes) eop) buf)) → controller_record new ≡ record (controller_record now) { served = stored now ++ segment buf eop ∷ []; held = None }
+    pub write_back-record : (new : ControllerSide) → new ≡ controller_grown c (controller.Own (WroteBack at.serve (rx_word (length buf.bytes) eop) buf)) → controller_record new ≡ record (controller_record now) { completed = stored now ++ segment buf eop ∷ []; held = None }
     write_back-record new step = record-after c new (controller.Own (WroteBack at.serve (rx_word (length buf.bytes) eop) buf)) step
-        ∙ ap (λ (s : Segment Bytes). let y : RxControlled = record x { served = x.served ++ s ∷ []; held = None } in y) segment-is
-        ∙ ap (λ (s : ControllerSide). let y : RxControlled = record (controller_record s) { served = stored s ++ segment buf eop ∷ []; held = None } in y) was
+        ∙ ap (λ (s : Segment Bytes). let y : RxControlled = record x { completed = x.completed ++ s ∷ []; held = None } in y) segment-is
+        ∙ ap (λ (s : ControllerSide). let y : RxControlled = record (controller_record s) { completed = stored s ++ segment buf eop ∷ []; held = None } in y) was
 
     pub write_back-step : (new : ControllerSide) → new ≡ controller_grown c (controller.Own (WroteBack at.serve (rx_word (length buf.bytes) eop) buf)) → new ≡ controller_grown now (controller.Own (WroteBack (serve_place now) (rx_word (length buf.bytes) eop) buf))
     write_back-step new step = step ∙ ap (λ (p : ℕ). controller_grown c (controller.Own (WroteBack p (rx_word (length buf.bytes) eop) buf))) h.serve_is

@@ -54,8 +54,8 @@ module _ (d : DriverSide) (at : DriverPlaces) (h : IsDriverEnd d at) (now : Driv
     segment-keeps new buf eop next' f e = end-after d new (driver.Own (Taken at.next (rx_word (length buf.bytes) eop) buf)) (record at { next = next'; out = at.out - 1 }) f.step
         (end-taken (driver_size d) (driver_record d) (known_of d) at h at.next (rx_word (length buf.bytes) eop) next' buf (omega arith) e)
 
-    grew : (buf : Buffer) (eop : Bool) → (let x : RxDriven = record (driver_record d) { given = taken d ++ segment_of (rx_word (length buf.bytes) eop) buf ∷ [] } in x) ≡ record (driver_record d) { given = taken d ++ segment buf eop ∷ [] }
-    grew buf eop = ap (λ (e : Bool). let x : RxDriven = record (driver_record d) { given = taken d ++ (let s : Segment Bytes = record { number = buf.number; payload = buf.bytes; eop = e } in s) ∷ [] } in x) (eop_of-rx_word (length buf.bytes) eop)
+    grew : (buf : Buffer) (eop : Bool) → (let x : RxDriven = record (driver_record d) { reaped = taken d ++ segment_of (rx_word (length buf.bytes) eop) buf ∷ [] } in x) ≡ record (driver_record d) { reaped = taken d ++ segment buf eop ∷ [] }
+    grew buf eop = ap (λ (e : Bool). let x : RxDriven = record (driver_record d) { reaped = taken d ++ (let s : Segment Bytes = record { number = buf.number; payload = buf.bytes; eop = e } in s) ∷ [] } in x) (eop_of-rx_word (length buf.bytes) eop)
 
     pub segment-taken : (new : DriverSide) (buf : Buffer) (eop : Bool) → FoundSegment d at.next buf eop new → TookSegment now buf eop new
     segment-taken new buf eop f = subst (λ (s : DriverSide). TookSegment s buf eop new) was (record {
@@ -68,7 +68,7 @@ module _ (d : DriverSide) (at : DriverPlaces) (h : IsDriverEnd d at) (now : Driv
       follows = f.follows;
       grew = record-after d new (driver.Own (Taken at.next (rx_word (length buf.bytes) eop) buf)) f.step ∙ grew buf eop;
       room = let o = h.out_is in let r = h.room in let len = length-append (taken d) (segment_of (rx_word (length buf.bytes) eop) buf ∷ []) in let z : driver_size new ≡ driver_size d = ap driver_size f.step in
-          subst (λ (x : RxDriven). length x.posted + 1 < length x.given + x.reclaimed + driver_size new) (sym (record-after d new (driver.Own (Taken at.next (rx_word (length buf.bytes) eop) buf)) f.step)) (omega arith);
+          subst (λ (x : RxDriven). length x.posted + 1 < length x.reaped + x.reclaimed + driver_size new) (sym (record-after d new (driver.Own (Taken at.next (rx_word (length buf.bytes) eop) buf)) f.step)) (omega arith);
       known = known-after d new (driver.Own (Taken at.next (rx_word (length buf.bytes) eop) buf)) f.step;
     })
 
@@ -78,7 +78,7 @@ module _ (d : DriverSide) (at : DriverPlaces) (h : IsDriverEnd d at) (now : Driv
   back-keeps (Some buf) new at' f p = let e : DriverStep = driver.Reclaimed (next_place d) buf in record {
     poster = p;
     sure = subst (λ (k : Knowing). k.quiet ≡ true → length (taken new) ≡ length (posted new) → k.drained ≡ true) (sym (known-after d new e f.step))
-        (subst (λ (x : RxDriven). (known_of d).quiet ≡ true → length x.given ≡ length x.posted → (known_of d).drained ≡ true) (sym (record-after d new e f.step)) h.sure);
+        (subst (λ (x : RxDriven). (known_of d).quiet ≡ true → length x.reaped ≡ length x.posted → (known_of d).drained ≡ true) (sym (record-after d new e f.step)) h.sure);
   }
 
   pub back-home : (o : Option Buffer) (new : DriverSide) → ReclaimedNext d o new → Reclaimed now o new
@@ -107,12 +107,12 @@ module _ (d : DriverSide) (at : DriverPlaces) (h : IsDriverEnd d at) (now : Driv
       nothing-back : returned d ≡ length (taken d)
       nothing-back = subst (λ (s : DriverSide). returned s ≡ length (taken s)) (sym was) whole
 
-      given-is : taken new ≡ taken d
-      given-is = ap (λ (x : RxDriven). x.given) (record-after d new (driver.LoadedHead head) step)
+      reaped-is : taken new ≡ taken d
+      reaped-is = ap (λ (x : RxDriven). x.reaped) (record-after d new (driver.LoadedHead head) step)
 
       counted : left ≡ left_by new head
       counted = is ∙ ap (λ (n : ℕ). (head + n - at.next) % n) h.size_is ∙ ap (λ (j : ℕ). (head + driver_size d - j) % driver_size d) (h.next_is ∙ ap (λ (j : ℕ). j % driver_size d) nothing-back)
-          ∙ ap (λ (xs : List (Segment Bytes)). (head + driver_size d - length xs % driver_size d) % driver_size d) (sym given-is)
+          ∙ ap (λ (xs : List (Segment Bytes)). (head + driver_size d - length xs % driver_size d) % driver_size d) (sym reaped-is)
           ∙ ap (λ (n : ℕ). (head + n - length (taken new) % n) % n) (sym (ap driver_size step))
 
   -- C9, C10 and C11
@@ -139,7 +139,7 @@ module _ (d : DriverSide) (at : DriverPlaces) (h : IsDriverEnd d at) (now : Driv
     all-back = subst (λ (s : DriverSide). returned s ≡ length (posted s)) (sym was) back
 
     pub renew-back : returned d2 ≡ length (posted d2)
-    renew-back = subst (λ (x : RxDriven). length x.given + x.reclaimed ≡ length x.posted) (sym second) all-back
+    renew-back = subst (λ (x : RxDriven). length x.reaped + x.reclaimed ≡ length x.posted) (sym second) all-back
 
     module _ (three : d3 ≡ driver_grown d2 (driver.Own ClearedQuiet)) where
       pub renew-keeps : IsDriverEnd d3 (anew at.size)

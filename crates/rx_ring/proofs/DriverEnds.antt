@@ -24,7 +24,7 @@ end-after d new e at step h = subst (λ (n : ℕ). IsEndOf n (driver_record new)
     (subst (λ (k : Knowing). IsEndOf (driver_size d) (drive (driver_record d) e) k at) (sym (known-after d new e step)) h))
 
 -- an epoch in which nothing is done
-pub end-anew : (n published : ℕ) → IsRingLength n → IsEndOf n (record { posted = []; published = published; given = []; reclaimed = 0; state = New }) unknown (anew n)
+pub end-anew : (n published : ℕ) → IsRingLength n → IsEndOf n (record { posted = []; published = published; reaped = []; reclaimed = 0; state = New }) unknown (anew n)
 end-anew n published lawful = record { poster = poster-anew n published lawful; sure = λ a. absurd (false≢true a) }
 
 module _ (n : ℕ) (x : RxDriven) (k : Knowing) (at : DriverPlaces) (h : IsEndOf n x k at) where
@@ -34,22 +34,22 @@ module _ (n : ℕ) (x : RxDriven) (k : Knowing) (at : DriverPlaces) (h : IsEndOf
   pub end-published : (published : ℕ) → IsEndOf n (record x { published = published }) k at
   end-published published = record { poster = poster-published n x at h.poster published; sure = h.sure }
 
-  pub end-known : (k' : Knowing) → (k'.quiet ≡ true → length x.given ≡ length x.posted → k'.drained ≡ true) → IsEndOf n x k' at
+  pub end-known : (k' : Knowing) → (k'.quiet ≡ true → length x.reaped ≡ length x.posted → k'.drained ≡ true) → IsEndOf n x k' at
   end-known k' f = record { poster = h.poster; sure = f }
 
   pub end-quiet : (w : ℕ) → IsEndOf n x (know x k (driver.Own (LoadedQuiet w))) at
-  end-quiet w = end-known (know x k (driver.Own (LoadedQuiet w))) (λ q a. or_right k.drained ((k.quiet || (w == 1)) && (length x.given == length x.posted)) (and_from (k.quiet || (w == 1)) (length x.given == length x.posted) q (eq-eqb (length x.given) (length x.posted) a)))
+  end-quiet w = end-known (know x k (driver.Own (LoadedQuiet w))) (λ q a. or_right k.drained ((k.quiet || (w == 1)) && (length x.reaped == length x.posted)) (and_from (k.quiet || (w == 1)) (length x.reaped == length x.posted) q (eq-eqb (length x.reaped) (length x.posted) a)))
 
   pub end-not_done : (p w : ℕ) → IsEndOf n x (know x k (driver.Own (NotDone p w))) at
   end-not_done p w = end-known (know x k (driver.Own (NotDone p w))) (λ q a. or_right k.drained k.quiet q)
 
-  pub end-post : (b fill : ℕ) → length x.posted + 1 < length x.given + x.reclaimed + n → fill ≡ (if (at.fill + 1) == n then 0 else (at.fill + 1)) → IsEndOf n (record x { posted = x.posted ++ b ∷ [] }) k (record at { fill = fill; out = at.out + 1 })
+  pub end-post : (b fill : ℕ) → length x.posted + 1 < length x.reaped + x.reclaimed + n → fill ≡ (if (at.fill + 1) == n then 0 else (at.fill + 1)) → IsEndOf n (record x { posted = x.posted ++ b ∷ [] }) k (record at { fill = fill; out = at.out + 1 })
   end-post b fill room f = let e = length-append x.posted (b ∷ []) in let o = h.out_is in record { poster = poster-post n x at h.poster b fill room f; sure = λ a b. absurd (omega arith) }
 
   pub end-taken : (p w next : ℕ) (b : Buffer) → 0 < at.out → next ≡ (if (at.next + 1) == n then 0 else (at.next + 1)) → IsEndOf n (drive x (driver.Own (Taken p w b))) (know x k (driver.Own (Taken p w b))) (record at { next = next; out = at.out - 1 })
-  end-taken p w next b some f = let e = length-append x.given (segment_of w b ∷ []) in let u = h.unreclaimed in record {
+  end-taken p w next b some f = let e = length-append x.reaped (segment_of w b ∷ []) in let u = h.unreclaimed in record {
     poster = poster-back n x at h.poster (drive x (driver.Own (Taken p w b))) next refl refl (omega arith) h.unreclaimed some f;
-    sure = λ q a. or_right k.drained (k.quiet && (length x.given + 1 == length x.posted)) (and_from k.quiet (length x.given + 1 == length x.posted) q (eq-eqb (length x.given + 1) (length x.posted) (omega arith)));
+    sure = λ q a. or_right k.drained (k.quiet && (length x.reaped + 1 == length x.posted)) (and_from k.quiet (length x.reaped + 1 == length x.posted) q (eq-eqb (length x.reaped + 1) (length x.posted) (omega arith)));
   }
 
 -- C1, C4, C5
@@ -68,6 +68,6 @@ quiet-seen was false e = absurd (false≢true e)
 
 -- the quiet word, as a bit, was 1 where the answer is true
 pub quiet-told : (x : RxDriven) (k : Knowing) (b : Bool) → know x k (driver.Own (LoadedQuiet (bit b)))
-    ≡ (let l : Knowing = record k { quiet = k.quiet || b; drained = k.drained || ((k.quiet || b) && (length x.given == length x.posted)) } in l)
+    ≡ (let l : Knowing = record k { quiet = k.quiet || b; drained = k.drained || ((k.quiet || b) && (length x.reaped == length x.posted)) } in l)
 quiet-told x k true = refl
 quiet-told x k false = refl

@@ -6,14 +6,14 @@ use Rattle.ring_model.specs.receive.Ring.{RxLedger}
 use Rattle.ring_model.specs.shared.Segments.{Segment, ends_segment}
 use Rattle.ring_model.specs.receive.Lawful.{IsLawfulRxLedger}
 use Rattle.ring_model.specs.shared.Frames.{Bytes}
-use Rattle.ring_model.specs.shared.Queue.{served_count, given_count}
+use Rattle.ring_model.specs.shared.Queue.{completed_count, reaped_count}
 use Rattle.ring_model.specs.kept.Receive.{IsRxKept}
 use Rattle.ring_laws.specs.Rings.{rx_kept}
 use Rattle.ring_laws.specs.Places.{ahead}
 use Rattle.shared_ring.proofs.Laying.{none-empty}
 use Rattle.rx_ring.specs.Records.{RxDriven, controlling}
-use Rattle.shared_ring.proofs.Meeting.{served-is}
-use Rattle.rx_ring.specs.Rule.{says, lies_there}
+use Rattle.shared_ring.proofs.Meeting.{completed-is}
+use Rattle.rx_ring.specs.Rule.{word_of_item, buffer_of_item}
 use Rattle.rx_ring.specs.Ends.{DriverSide, driver_size, taken, known_of, saw_quiet, is_drained, ControllerSide, is_quiet}
 use Rattle.rx_ring.specs.Calls.{IsTold, left_at, told_left}
 use Rattle.rx_ring.specs.Meeting.{ledger_of, stored_now, left_by, Met}
@@ -27,12 +27,12 @@ module _ (d : DriverSide) (c : ControllerSide) (m : Met d c) (same : c.table ≡
   kept : IsRxKept Bytes (driver_size d) m.queue
   kept = rx_kept (driver_size d) m.queue big m.reachable
 
-  pub stored-is : stored_now d c ≡ m.queue.ledger.served
-  stored-is = let k = kept in served-is says lies_there ends_segment (driver_size d) m.queue.queue k.queue m.queue.still d c same m.driver m.controller
+  pub stored-is : stored_now d c ≡ m.queue.ledger.completed
+  stored-is = let k = kept in completed-is word_of_item buffer_of_item ends_segment (driver_size d) m.queue.queue k.queue m.queue.still d c same m.driver m.controller
 
   ledger-is : ledger_of d c ≡ m.queue.ledger
-  ledger-is = ap (λ (x : RxDriven). let l : RxLedger Bytes = record { posted = x.posted; served = stored_now d c; given = x.given } in l) m.driver
-      ∙ ap (λ (xs : List (Segment Bytes)). let l : RxLedger Bytes = record { posted = m.queue.ledger.posted; served = xs; given = m.queue.ledger.given } in l) stored-is
+  ledger-is = ap (λ (x : RxDriven). let l : RxLedger Bytes = record { posted = x.posted; completed = stored_now d c; reaped = x.reaped } in l) m.driver
+      ∙ ap (λ (xs : List (Segment Bytes)). let l : RxLedger Bytes = record { posted = m.queue.ledger.posted; completed = xs; reaped = m.queue.ledger.reaped } in l) stored-is
 
   pub met-lawful : IsLawfulRxLedger Bytes (driver_size d) (ledger_of d c)
   met-lawful = let a = m.lawful in let e = a.ledger in let f = m.driver in
@@ -41,11 +41,11 @@ module _ (d : DriverSide) (c : ControllerSide) (m : Met d c) (same : c.table ≡
 
   -- what was learnt of the head
   pub met-left : (head : ℕ) → (known_of d).head ≡ Some head → length (stored_now d c) ≡ length (taken d) + left_by d head
-  met-left head e = let l = m.learnt in let h = l.head head e in let k = kept in let o = k.queue.order in let gs = o.given_served in let sp = o.served_posted in let r = o.room in
-      let t : length (taken d) ≡ given_count m.queue.queue = ap (λ (x : RxDriven). length x.given) m.driver in let s : length (stored_now d c) ≡ served_count m.queue.queue = ap length stored-is in
-      let a = ahead (driver_size d) (given_count m.queue.queue) (served_count m.queue.queue) (omega arith) gs (omega arith) in
-      let b : left_by d head ≡ (served_count m.queue.queue % driver_size d + driver_size d - given_count m.queue.queue % driver_size d) % driver_size d =
-      ap (λ (x : ℕ). (head + driver_size d - x % driver_size d) % driver_size d) t ∙ ap (λ (x : ℕ). (x + driver_size d - given_count m.queue.queue % driver_size d) % driver_size d) h.1 in
+  met-left head e = let l = m.learnt in let h = l.head head e in let k = kept in let o = k.queue.order in let gs = o.reaped_completed in let sp = o.completed_posted in let r = o.room in
+      let t : length (taken d) ≡ reaped_count m.queue.queue = ap (λ (x : RxDriven). length x.reaped) m.driver in let s : length (stored_now d c) ≡ completed_count m.queue.queue = ap length stored-is in
+      let a = ahead (driver_size d) (reaped_count m.queue.queue) (completed_count m.queue.queue) (omega arith) gs (omega arith) in
+      let b : left_by d head ≡ (completed_count m.queue.queue % driver_size d + driver_size d - reaped_count m.queue.queue % driver_size d) % driver_size d =
+      ap (λ (x : ℕ). (head + driver_size d - x % driver_size d) % driver_size d) t ∙ ap (λ (x : ℕ). (x + driver_size d - reaped_count m.queue.queue % driver_size d) % driver_size d) h.1 in
       omega arith
 
   -- where it saw the queue quiet, the controller said that it is
@@ -54,7 +54,7 @@ module _ (d : DriverSide) (c : ControllerSide) (m : Met d c) (same : c.table ≡
 
   pub met-drained : is_drained d ≡ true → taken d ≡ stored_now d c
   met-drained e = let l = m.learnt in let h = l.drained e in let k = kept in
-      ap (λ (x : RxDriven). x.given) m.driver ∙ beginning-whole m.queue.ledger.given m.queue.ledger.served k.taken h.1 ∙ sym stored-is
+      ap (λ (x : RxDriven). x.reaped) m.driver ∙ beginning-whole m.queue.ledger.reaped m.queue.ledger.completed k.taken h.1 ∙ sym stored-is
 
   told-is : (o : Option ℕ) → (known_of d).head ≡ o → IsTold (left_at d o) (length (taken d)) (length (stored_now d c))
   told-is None e = tt

@@ -40,8 +40,8 @@ pub even-word : (b : Bool) (w : ℕ) → b ≡ false → (w % 2 ≡ 1 → b ≡ 
 even-word b w clear odd = ⊎_elim (λ e. absurd (false≢true (sym clear ∙ odd e))) (λ ne. let h : w % 2 < 2 = mod-lt w (omega arith) in omega arith) (cases_eq (w % 2) 1)
 
 pub eop-word : (b : Bool) (w : ℕ) → (b ≡ true → (w / 2) % 2 ≡ 1) → ((w / 2) % 2 ≡ 1 → b ≡ true) → b ≡ eop_of w
-eop-word true w says from = sym (eq-eqb ((w / 2) % 2) 1 (says refl))
-eop-word false w says from = sym (false_from_ne_true ((w / 2) % 2 == 1) (λ e. false≢true (from (eqb-true ((w / 2) % 2) 1 e))))
+eop-word true w word_of_item from = sym (eq-eqb ((w / 2) % 2) 1 (word_of_item refl))
+eop-word false w word_of_item from = sym (false_from_ne_true ((w / 2) % 2 == 1) (λ e. false≢true (from (eqb-true ((w / 2) % 2) 1 e))))
 
 -- the second word of a descriptor is the write-back of its bytes
 same-word : (e : Bool) (len w : ℕ) → w ≡ 1 + 2 * descriptor_bit e + len * 2 ^ 32 → w ≡ rx_word len e

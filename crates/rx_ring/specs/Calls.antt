@@ -45,7 +45,7 @@ pub record TookSegment (old : DriverSide) (buf : Buffer) (eop : Bool) (new : Dri
   pub number : slice_get (posted old) (length (taken old)) ≡ Some buf.number
   pub real : buf ≡ buffer buf.number buf.bytes
   pub follows : Follows piece_of (driver_size old) (unfinished piece_of (taken old)) buf.bytes eop
-  pub grew : driver_record new ≡ record (driver_record old) { given = taken old ++ segment buf eop ∷ [] }
+  pub grew : driver_record new ≡ record (driver_record old) { reaped = taken old ++ segment buf eop ∷ [] }
   pub room : length (posted new) + 1 < returned new + driver_size new
   pub known : known_of new ≡ record (known_of old) { drained = is_drained old || (saw_quiet old && (length (taken old) + 1 == length (posted old))) }
 
@@ -108,7 +108,7 @@ pub record GoneOver (old new : DriverSide) : Type 0 where
 pub record IsEndOf (n : ℕ) (x : RxDriven) (k : Knowing) (at : DriverPlaces) : Type 0 where
   pub poster : IsPoster n x at
   pub open poster use *
-  pub sure : k.quiet ≡ true → length x.given ≡ length x.posted → k.drained ≡ true
+  pub sure : k.quiet ≡ true → length x.reaped ≡ length x.posted → k.drained ≡ true
 
 abbrev pub IsDriverEnd : DriverSide → DriverPlaces → Type 0
 IsDriverEnd d at = IsEndOf (driver_size d) (driver_record d) (known_of d) at

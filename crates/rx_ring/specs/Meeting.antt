@@ -6,7 +6,7 @@ use Rattle.ring_model.specs.declared.states.Completion.TheVariants.{Status}
 use Rattle.ring_model.specs.receive.Ring.{RxLedger}
 use Rattle.ring_model.specs.shared.Frames.{Bytes}
 use Rattle.shared_ring.specs.Meeting as shared
-pub use Rattle.shared_ring.specs.Meeting.{is_unanswered, served_now as stored_now, Met, IsReal, AllReal, CameBackFrom, IsOutAt, numbers_at}
+pub use Rattle.shared_ring.specs.Meeting.{is_unanswered, completed_now as stored_now, Met, IsReal, AllReal, CameBackFrom, IsOutAt, numbers_at}
 use Rattle.rx_ring.specs.Ends.{DriverSide, driver_size, posted, taken, ControllerSide}
 use Rattle.rx_ring.specs.Form.{AreOf}
 
@@ -16,7 +16,7 @@ MadeSeats n ring d c = shared.MadeSeats n Status ring d c
 
 -- The ledger that the two ends have together.
 abbrev pub ledger_of : DriverSide → ControllerSide → RxLedger Bytes
-ledger_of d c = record { posted = posted d; served = stored_now d c; given = taken d }
+ledger_of d c = record { posted = posted d; completed = stored_now d c; reaped = taken d }
 
 -- The number of segments left to take, from a loaded head.
 abbrev pub left_by : DriverSide → ℕ → ℕ

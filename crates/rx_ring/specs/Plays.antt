@@ -16,10 +16,10 @@ abbrev pub takes : ℕ → List DriverStep → ℕ → ℕ → Buffer → Driver
 takes n es place r b = driver.Own (Taken place r b)
 
 pub record TakesOut (n : ℕ) (es : List DriverStep) (place r : ℕ) (buf : Buffer) : Type 0 where
-  pub number : slice_get (driving es).posted (length (driving es).given) ≡ Some buf.number
+  pub number : slice_get (driving es).posted (length (driving es).reaped) ≡ Some buf.number
   pub word : r ≡ rx_word (length buf.bytes) (eop_of r)
   pub real : buf ≡ buffer buf.number buf.bytes
-  pub follows : Follows piece_of n (unfinished piece_of (driving es).given) buf.bytes (eop_of r)
+  pub follows : Follows piece_of n (unfinished piece_of (driving es).reaped) buf.bytes (eop_of r)
 
 -- A6: a descriptor without DD.
 abbrev pub finds_none : ℕ → ℕ → DriverStep

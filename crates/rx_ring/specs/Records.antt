@@ -42,9 +42,9 @@ posting word b = b.number
 -- Clearing the quiet word ends the epoch. A new, empty one begins.
 abbrev pub drive_own : RxDriven → RxDriverOwn → RxDriven
 drive_own d (NotDone place word) = d
-drive_own d (Taken place word b) = record d { given = d.given ++ segment_of word b ∷ [] }
+drive_own d (Taken place word b) = record d { reaped = d.reaped ++ segment_of word b ∷ [] }
 drive_own d (LoadedQuiet word) = d
-drive_own d ClearedQuiet = record d { posted = []; given = []; reclaimed = 0; state = New }
+drive_own d ClearedQuiet = record d { posted = []; reaped = []; reclaimed = 0; state = New }
 
 abbrev pub drive : RxDriven → DriverStep → RxDriven
 drive = shared.drive posting drive_own
@@ -53,7 +53,7 @@ abbrev pub driving : List DriverStep → RxDriven
 driving es = shared.driving_from posting drive_own undriven es
 
 abbrev pub control_own : RxControlled → RxControllerOwn → RxControlled
-control_own c (WroteBack place word b) = record c { served = c.served ++ segment_of word b ∷ []; held = None }
+control_own c (WroteBack place word b) = record c { completed = c.completed ++ segment_of word b ∷ []; held = None }
 control_own c SaidQuiet = record c { barred = true }
 
 -- The access that a step makes in a ring of `n` places.
@@ -86,8 +86,8 @@ unknown = record { head = None; quiet = false; drained = false }
 -- The numbers of taken and posted items decide whether anything is out.
 abbrev pub know_own : RxDriven → Knowing → RxDriverOwn → Knowing
 know_own d k (NotDone place word) = record k { drained = k.drained || k.quiet }
-know_own d k (Taken place word b) = record k { drained = k.drained || (k.quiet && (length d.given + 1 == length d.posted)) }
-know_own d k (LoadedQuiet word) = record k { quiet = k.quiet || (word == 1); drained = k.drained || ((k.quiet || (word == 1)) && (length d.given == length d.posted)) }
+know_own d k (Taken place word b) = record k { drained = k.drained || (k.quiet && (length d.reaped + 1 == length d.posted)) }
+know_own d k (LoadedQuiet word) = record k { quiet = k.quiet || (word == 1); drained = k.drained || ((k.quiet || (word == 1)) && (length d.reaped == length d.posted)) }
 know_own d k ClearedQuiet = unknown
 
 abbrev pub saw_head : Knowing → ℕ → Knowing

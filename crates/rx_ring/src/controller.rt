@@ -95,7 +95,7 @@ impl RxControllerEnd {
         requires real { buf ≡ buffer buf.number buf.bytes }
         requires follows { Follows piece_of (controller_size self.old) (unfinished piece_of (stored self.old)) buf.bytes eop }
         ensures step { self.new ≡ controller_grown self.old (Own (WroteBack (serve_place self.old) (rx_word (length buf.bytes) eop) buf)) }
-        ensures record { controller_record self.new ≡ record (controller_record self.old) { served = stored self.old ++ segment buf eop ∷ []; held = None } }
+        ensures record { controller_record self.new ≡ record (controller_record self.old) { completed = stored self.old ++ segment buf eop ∷ []; held = None } }
     {
         steps::write_back(&mut self.seat, &ring.0, self.at.serve, buf, eop);
         self.at.serve = place_after(self.at.serve, self.at.size);

@@ -18,9 +18,9 @@ impl Direction<RxDriverOwn, RxControllerOwn> for RxRule {
 
     ghost Posted = { ℕ };
 
-    ghost Served = { Segment Bytes };
+    ghost Completed = { Segment Bytes };
 
-    ghost Given = { Segment Bytes };
+    ghost Reaped = { Segment Bytes };
 
     ghost form = { rx };
 }

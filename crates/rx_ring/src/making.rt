@@ -73,9 +73,9 @@ pub fn close(ring: RxRing, driver: RxDriverEnd, controller: RxControllerEnd) -> 
     let RxDriverEnd { seat, at } = driver;
     let RxControllerEnd {
         seat: other,
-        at: served,
+        at: completed,
         ..
     } = controller;
     ring.0
-        .take_apart(seat, other, at.next, at.out, served.serve, served.holding)
+        .take_apart(seat, other, at.next, at.out, completed.serve, completed.holding)
 }

@@ -15,7 +15,7 @@ use Rattle.shared_ring.specs.Tables.{words_of}
 use Rattle.shared_ring.proofs.Allowing.{Role, Goes, allow_end}
 use Rattle.shared_ring.proofs.Laying.{set-same}
 
-module _ {Ring Posted Served Given D C : Type 0} (form : Form Ring Posted Served Given D C) (n : ℕ) (mode : Completion) {E O : Type 0} (role : Role (form.Lies n mode) E O) (es : List E) where
+module _ {Ring Posted Completed Reaped D C : Type 0} (form : Form Ring Posted Completed Reaped D C) (n : ℕ) (mode : Completion) {E O : Type 0} (role : Role (form.IsLaidOut n mode) E O) (es : List E) where
   -- what goes wherever words, slots and this record agree; and that they agree again
   abbrev pub Going : (List O → List ℕ → List (maybe.Option Buffer) → Type 0) → Type 0
   Going X = (q : Ring) (os : List O) (words : List ℕ) (homes : List (maybe.Option Buffer)) → 1 < n → role.Lie q es os words homes → X os words homes
@@ -30,19 +30,19 @@ module _ {Ring Posted Served Given D C : Type 0} (form : Form Ring Posted Served
   module _ (id : ℕ) (slots : List (ℕ × Buffer)) (T : Step Buffer → SeatOf D C → ℕ → SeatOf D C → Type 0) (i : ℕ) where
     pub may-store : (v : ℕ) (e : E) → Going (λ os words homes. Agree e os (slice_set words i v) homes) → T (step n i v 0 none) (role.view es, slots) v (role.view (es ++ e ∷ []), slots)
         → Allows (IsRuled form n mode) n id (role.view es, slots) i (λ _. v) (λ _ m. T (step n i v 0 none) (role.view es, slots) v m)
-    may-store v e goes told = allow_end (form.Lies n mode) n (words_of n mode) role id es slots i (λ _. v) (λ _ m. T (step n i v 0 none) (role.view es, slots) v m)
-        (λ q os words homes pos l. let g = goes q os words homes pos l in record { event = e; act = keeps; valid = tt; later = g.0; lies = g.1; told = told })
+    may-store v e goes told = allow_end (form.IsLaidOut n mode) n (words_of n mode) role id es slots i (λ _. v) (λ _ m. T (step n i v 0 none) (role.view es, slots) v m)
+        (λ q os words homes pos l. let g = goes q os words homes pos l in record { event = e; act = keeps; valid = tt; later = g.0; laid_out = g.1; told = told })
 
     pub may-load : (e : ℕ → E) (Told : ℕ → Type 0) → Going (λ os words homes. Told (slice_index words i) × Agree (e (slice_index words i)) os words homes)
         → ((r : ℕ) → Told r → T (step n i 0 0 none) (role.view es, slots) r (role.view (es ++ e r ∷ []), slots))
         → Allows (IsRuled form n mode) n id (role.view es, slots) i (λ x. x) (T (step n i 0 0 none) (role.view es, slots))
-    may-load e Told goes told = allow_end (form.Lies n mode) n (words_of n mode) role id es slots i (λ x. x) (T (step n i 0 0 none) (role.view es, slots))
+    may-load e Told goes told = allow_end (form.IsLaidOut n mode) n (words_of n mode) role id es slots i (λ x. x) (T (step n i 0 0 none) (role.view es, slots))
         (λ q os words homes pos l. let g = goes q os words homes pos l in record {
           event = e (slice_index words i);
           act = keeps;
           valid = tt;
           later = g.1.0;
-          lies = same-words (e (slice_index words i)) os words homes i g.1.0 g.1.1;
+          laid_out = same-words (e (slice_index words i)) os words homes i g.1.0 g.1.1;
           told = told (slice_index words i) g.0;
         })
 
@@ -51,8 +51,8 @@ module _ {Ring Posted Served Given D C : Type 0} (form : Form Ring Posted Served
         → Going (λ os words homes. (b : Buffer) × (get_elem? homes i ≡ some (some b)) × Told b × Agree (e b) os (slice_set words i 0) (slice_set homes i none))
         → ((b : Buffer) → Told b → T (step n i 0 0 none) (role.view es, slots) 0 (role.view (es ++ e b ∷ []), (i, b) ∷ slots))
         → Allows (IsRuled form n mode) n id (role.view es, slots) i (λ _. 0) (λ _ m. T (step n i 0 0 none) (role.view es, slots) 0 m)
-    may-clear e Told goes told = allow_end (form.Lies n mode) n (words_of n mode) role id es slots i (λ _. 0) (λ _ m. T (step n i 0 0 none) (role.view es, slots) 0 m)
-        (λ q os words homes pos l. let g = goes q os words homes pos l in record { event = e g.0; act = takes i g.0; valid = g.1; later = g.3.0; lies = g.3.1; told = told g.0 g.2 })
+    may-clear e Told goes told = allow_end (form.IsLaidOut n mode) n (words_of n mode) role id es slots i (λ _. 0) (λ _ m. T (step n i 0 0 none) (role.view es, slots) 0 m)
+        (λ q os words homes pos l. let g = goes q os words homes pos l in record { event = e g.0; act = takes i g.0; valid = g.1; later = g.3.0; laid_out = g.3.1; told = told g.0 g.2 })
 
     -- a load that takes it where the word is done
     pub may-find : (done : ℕ → Bool) (missed : ℕ → E) (e : ℕ → Buffer → E) (Told : ℕ → Buffer → Type 0)
@@ -61,17 +61,17 @@ module _ {Ring Posted Served Given D C : Type 0} (form : Form Ring Posted Served
         → ((r : ℕ) → done r ≡ false → T (step n i 0 0 none) (role.view es, slots) r (role.view (es ++ missed r ∷ []), slots))
         → ((r : ℕ) (b : Buffer) → done r ≡ true → Told r b → T (step n i 0 0 none) (role.view es, slots) r (role.view (es ++ e r b ∷ []), (i, b) ∷ slots))
         → Allows (IsRuled form n mode) n id (role.view es, slots) i (λ x. x) (T (step n i 0 0 none) (role.view es, slots))
-    may-find done missed e Told nothing found told_nothing told = allow_end (form.Lies n mode) n (words_of n mode) role id es slots i (λ x. x) (T (step n i 0 0 none) (role.view es, slots))
+    may-find done missed e Told nothing found told_nothing told = allow_end (form.IsLaidOut n mode) n (words_of n mode) role id es slots i (λ x. x) (T (step n i 0 0 none) (role.view es, slots))
         (λ q os words homes pos l. either q os words homes pos l (done (slice_index words i)) refl)
       where
         either : (q : Ring) (os : List O) (words : List ℕ) (homes : List (maybe.Option Buffer)) → 1 < n → role.Lie q es os words homes → (b : Bool) → done (slice_index words i) ≡ b
-            → Goes (form.Lies n mode) n (words_of n mode) role es slots i (λ x. x) (T (step n i 0 0 none) (role.view es, slots)) os words homes
+            → Goes (form.IsLaidOut n mode) n (words_of n mode) role es slots i (λ x. x) (T (step n i 0 0 none) (role.view es, slots)) os words homes
         either q os words homes pos l false f = let g = nothing q os words homes pos l f in record {
           event = missed (slice_index words i);
           act = keeps;
           valid = tt;
           later = g.0;
-          lies = same-words (missed (slice_index words i)) os words homes i g.0 g.1;
+          laid_out = same-words (missed (slice_index words i)) os words homes i g.0 g.1;
           told = told_nothing (slice_index words i) f;
         }
         either q os words homes pos l true f = let g = found q os words homes pos l f in record {
@@ -79,7 +79,7 @@ module _ {Ring Posted Served Given D C : Type 0} (form : Form Ring Posted Served
           act = takes i g.0;
           valid = g.1;
           later = g.3.0;
-          lies = same-words (e (slice_index words i) g.0) os words (slice_set homes i none) i g.3.0 g.3.1;
+          laid_out = same-words (e (slice_index words i) g.0) os words (slice_set homes i none) i g.3.0 g.3.1;
           told = told (slice_index words i) g.0 f g.2;
         }
 
@@ -91,8 +91,8 @@ module _ {Ring Posted Served Given D C : Type 0} (form : Form Ring Posted Served
     may-take e Told goes told = may-find (λ _. true) (λ r. e r blank) e Told (λ q os words homes pos l f. absurd (true≢false f)) (λ q os words homes pos l f. goes q os words homes pos l) (λ r f. absurd (true≢false f)) (λ r b f t. told r b t)
 
   -- a store that gives the slot taken last back
-  pub may-give : (id : ℕ) (slots : List (ℕ × Buffer)) (T : Step Buffer → SeatOf D C → ℕ → SeatOf D C → Type 0) (i v p : ℕ) (b : Buffer) (e : E)
+  pub may-reap : (id : ℕ) (slots : List (ℕ × Buffer)) (T : Step Buffer → SeatOf D C → ℕ → SeatOf D C → Type 0) (i v p : ℕ) (b : Buffer) (e : E)
       → Going (λ os words homes. Agree e os (slice_set words i v) (slice_set homes p (some b))) → T (step n i v 0 none) (role.view es, (p, b) ∷ slots) v (role.view (es ++ e ∷ []), slots)
       → Allows (IsRuled form n mode) n id (role.view es, (p, b) ∷ slots) i (λ _. v) (λ _ m. T (step n i v 0 none) (role.view es, (p, b) ∷ slots) v m)
-  may-give id slots T i v p b e goes told = allow_end (form.Lies n mode) n (words_of n mode) role id es ((p, b) ∷ slots) i (λ _. v) (λ _ m. T (step n i v 0 none) (role.view es, (p, b) ∷ slots) v m)
-      (λ q os words homes pos l. let g = goes q os words homes pos l in record { event = e; act = gives; valid = tt; later = g.0; lies = g.1; told = told })
+  may-reap id slots T i v p b e goes told = allow_end (form.IsLaidOut n mode) n (words_of n mode) role id es ((p, b) ∷ slots) i (λ _. v) (λ _ m. T (step n i v 0 none) (role.view es, (p, b) ∷ slots) v m)
+      (λ q os words homes pos l. let g = goes q os words homes pos l in record { event = e; act = gives; valid = tt; later = g.0; laid_out = g.1; told = told })

@@ -19,7 +19,7 @@ use Rattle.shared_ring.specs.declared.events.View.TheVariants.{Controller}
 use Rattle.shared_ring.specs.Ends.{Side, grown, controller_of}
 use Rattle.shared_ring.specs.Forms.{Form, control, controlling}
 use Rattle.shared_ring.specs.Keeping.{IsRuled, IsControllerSeat}
-use Rattle.shared_ring.specs.Own.{Event, MayStore, MayGive}
+use Rattle.shared_ring.specs.Own.{Event, MayStore, MayReap}
 use Rattle.shared_ring.specs.Accesses.{Load}
 use Rattle.shared_ring.specs.Plays.{SeatOf, longer, IsControl, IsTail, IsNext, answers, controller_end, gives, stores, Loads, Takes}
 use Rattle.shared_ring.specs.Records.{Controlled, controller_slots, uncontrolled, count_at}
@@ -28,16 +28,16 @@ use Rattle.shared_ring.specs.Slots.{slots_while, front_buffer}
 use Rattle.shared_ring.specs.Steps.{FoundTail, CameOut}
 use Rattle.shared_ring.specs.Tables.{IsTableOf, words_of}
 use Rattle.shared_ring.proofs.Allowing.{controller_role}
-use Rattle.shared_ring.proofs.Allowed.{may-store, may-load, may-take, may-give}
+use Rattle.shared_ring.proofs.Allowed.{may-store, may-load, may-take, may-reap}
 use Rattle.shared_ring.proofs.Standing as standing
 use Rattle.shared_ring.proofs.Standing.{as-made, Asks, LoadAsks, front-is}
 use Rattle.shared_ring.proofs.Folds.{controlling-snoc}
 
-module _ {Ring Posted Served Given D C : Type 0} (form : Form Ring Posted Served Given D C) where
+module _ {Ring Posted Completed Reaped D C : Type 0} (form : Form Ring Posted Completed Reaped D C) where
   abbrev End : Type 0
   End = Side (ControllerEvent C)
 
-  abbrev done_by : End → Controlled Served
+  abbrev done_by : End → Controlled Completed
   done_by s = controlling form s.table.slots s.events
 
   did : (n : ℕ) (es : List (ControllerEvent C)) (e : ControllerEvent C) → controlling form n (es ++ e ∷ []) ≡ control form n (controlling form n es) e
@@ -47,7 +47,7 @@ module _ {Ring Posted Served Given D C : Type 0} (form : Form Ring Posted Served
     abbrev es : List (ControllerEvent C)
     es = controller_part me.0
 
-    abbrev x : Controlled Served
+    abbrev x : Controlled Completed
     x = controlling form size (controller_part me.0)
 
     abbrev its : List (ℕ × Buffer)
@@ -62,7 +62,7 @@ module _ {Ring Posted Served Given D C : Type 0} (form : Form Ring Posted Served
     slots-are : me.1 ≡ controller_slots size (controlling form size (controller_part me.0))
     slots-are = ap (λ (m : SeatOf D C). m.1) inv.me_is
 
-    made : (table' : TableId) (me' : SeatOf D C) (es' : List (ControllerEvent C)) (slots' : List (ℕ × Buffer)) (x' : Controlled Served) → table' ≡ table → me' ≡ (Controller es', slots') → controlling form size es' ≡ x' → slots' ≡ controller_slots size x' → IsControllerSeat form table' me' size mode
+    made : (table' : TableId) (me' : SeatOf D C) (es' : List (ControllerEvent C)) (slots' : List (ℕ × Buffer)) (x' : Controlled Completed) → table' ≡ table → me' ≡ (Controller es', slots') → controlling form size es' ≡ x' → slots' ≡ controller_slots size x' → IsControllerSeat form table' me' size mode
     made table' me' es' slots' x' t m e s = as-made table table' me me' (Controller es', slots') size mode inv t m (ap (λ (xs : List (ℕ × Buffer)). let x : SeatOf D C = (Controller es', xs) in x) (s ∙ ap (controller_slots size) (sym e))) tt
 
     -- a step that leaves the slot that the controller has
@@ -78,7 +78,7 @@ module _ {Ring Posted Served Given D C : Type 0} (form : Form Ring Posted Served
       same-steps e table' me' t m = one-more e table' me' me.1 t m
 
       -- what a contract says of the end goes for the record
-      words-are : {Y : Type 0} (f : Controlled Served → ℕ → Y) → f (done_by now) now.table.slots ≡ f x size
+      words-are : {Y : Type 0} (f : Controlled Completed → ℕ → Y) → f (done_by now) now.table.slots ≡ f x size
       words-are f = ap (λ (s : End). f (done_by s) s.table.slots) (sym was) ∙ ap (λ (n : ℕ). f (controlling form n es) n) inv.size_is
 
       here : (F : ℕ → Completion → List (ControllerEvent C) → Type 0) → F now.table.slots now.completion now.events → F size mode (controller_part me.0)
@@ -90,14 +90,14 @@ module _ {Ring Posted Served Given D C : Type 0} (form : Form Ring Posted Served
       serves : is_serving (done_by now).state ≡ true → is_serving x.state ≡ true
       serves e = sym (words-are (λ y n. is_serving y.state)) ∙ e
 
-      at-serve : (place : ℕ) → place ≡ length (done_by now).served % now.table.slots → place ≡ length x.served % size
-      at-serve place e = e ∙ words-are (λ y n. length y.served % n)
+      at-serve : (place : ℕ) → place ≡ length (done_by now).completed % now.table.slots → place ≡ length x.completed % size
+      at-serve place e = e ∙ words-are (λ y n. length y.completed % n)
 
       unheld : (done_by now).held ≡ None → x.held ≡ None
       unheld e = sym (words-are (λ y n. y.held)) ∙ e
 
-      below : (place : ℕ) → place ≡ length x.served % size → place < words_of size mode
-      below place e = standing.below size mode place (length x.served) inv.lawful.0 e
+      below : (place : ℕ) → place ≡ length x.completed % size → place < words_of size mode
+      below place e = standing.below size mode place (length x.completed) inv.lawful.0 e
 
       module _ (ring : TableId) (key : ℕ × Completion) (ruled : IsTableOf ring key.0 key.1) (ring_now : TableId) (ring_is : ring ≡ ring_now) (mine : now.table ≡ ring_now) where
         stands : standing.StandsAt table size mode ring key me (Controller es, its)
@@ -108,7 +108,7 @@ module _ {Ring Posted Served Given D C : Type 0} (form : Form Ring Posted Served
 
         -- A3, B3
         pub look-asks : (id : ℕ) → is_serving (done_by now).state ≡ true → LoadAsks form table ring key me (Loads (controller_end form) (λ n es i r b. controller.Looked r) (IsTail form)) id (size + 1)
-        look-asks id serving = standing.load-asks stands form (Loads (controller_end form) (λ n es i r b. controller.Looked r) (IsTail form)) id (size + 1) (standing.low size mode (size + 1) (omega arith)) (may-load form size mode (controller_role (form.Lies size mode)) es id its (Loads (controller_end form) (λ n es i r b. controller.Looked r) (IsTail form)) (size + 1) controller.Looked (λ r. (r < size) × (x.known ≤ count_at size (length x.served) r))
+        look-asks id serving = standing.load-asks stands form (Loads (controller_end form) (λ n es i r b. controller.Looked r) (IsTail form)) id (size + 1) (standing.low size mode (size + 1) (omega arith)) (may-load form size mode (controller_role (form.IsLaidOut size mode)) es id its (Loads (controller_end form) (λ n es i r b. controller.Looked r) (IsTail form)) (size + 1) controller.Looked (λ r. (r < size) × (x.known ≤ count_at size (length x.completed) r))
             (λ q ds words homes pos l. let a = inv.law.allowed size mode q ds es words homes pos l in let f = a.controller in let g = f.look (serves serving) in ((g.0, g.1), g.2)) (λ r t. record { adds = record { seat = refl; names = refl }; told = record { below = t.0; grows = t.1 } }))
 
         -- a tail is a place
@@ -119,26 +119,26 @@ module _ {Ring Posted Served Given D C : Type 0} (form : Form Ring Posted Served
         look-steps r table' me' t told = record {
           step = ap (controller_of form) (same-steps (controller.Looked r) table' me' t told.adds.seat);
           below = back-there (λ n m xs. r < n) (subst (λ (n : ℕ). r < n) counts told.told.below);
-          grows = back-there (λ n m xs. (controlling form n xs).known ≤ count_at n (length (controlling form n xs).served) r) (subst (λ (n : ℕ). (controlling form n es).known ≤ count_at n (length (controlling form n es).served) r) counts told.told.grows);
+          grows = back-there (λ n m xs. (controlling form n xs).known ≤ count_at n (length (controlling form n xs).completed) r) (subst (λ (n : ℕ). (controlling form n es).known ≤ count_at n (length (controlling form n es).completed) r) counts told.told.grows);
         }
 
         -- A4, B4
-        pub fetch-asks : (id place : ℕ) → place ≡ length (done_by now).served % now.table.slots → is_serving (done_by now).state ≡ true → 0 < (done_by now).known - length (done_by now).served → (done_by now).held ≡ None → (done_by now).barred ≡ false
+        pub fetch-asks : (id place : ℕ) → place ≡ length (done_by now).completed % now.table.slots → is_serving (done_by now).state ≡ true → 0 < (done_by now).known - length (done_by now).completed → (done_by now).held ≡ None → (done_by now).barred ≡ false
             → LoadAsks form table ring key me (Takes (controller_end form) (λ n es p r b. controller.Fetched p r b) (IsNext form) Load) id place
-        fetch-asks id place at serving some none_held free = let f : (done_by now).known - length (done_by now).served ≡ x.known - length x.served = words-are (λ y n. y.known - length y.served) in
-            let more : length x.served < x.known = omega arith in
-            standing.load-asks stands form (Takes (controller_end form) (λ n es p r b. controller.Fetched p r b) (IsNext form) Load) id place (below place (at-serve place at)) (may-take form size mode (controller_role (form.Lies size mode)) es id its (Takes (controller_end form) (λ n es p r b. controller.Fetched p r b) (IsNext form) Load) place (λ r b. controller.Fetched place r b) (λ r b. form.IsFetched size x r b)
+        fetch-asks id place at serving some none_held free = let f : (done_by now).known - length (done_by now).completed ≡ x.known - length x.completed = words-are (λ y n. y.known - length y.completed) in
+            let more : length x.completed < x.known = omega arith in
+            standing.load-asks stands form (Takes (controller_end form) (λ n es p r b. controller.Fetched p r b) (IsNext form) Load) id place (below place (at-serve place at)) (may-take form size mode (controller_role (form.IsLaidOut size mode)) es id its (Takes (controller_end form) (λ n es p r b. controller.Fetched p r b) (IsNext form) Load) place (λ r b. controller.Fetched place r b) (λ r b. form.IsFetched size x r b)
             (λ q ds words homes pos l. let a = inv.law.allowed size mode q ds es words homes pos l in let f = a.controller in
             let g = f.fetch place (at-serve place at) (serves serving) more (unheld none_held) (sym (words-are (λ y n. y.barred)) ∙ free) in (g.buf, g.home, g.fetched, g.agrees)) (λ r b t. record { buf = b; adds = record { seat = refl; names = refl }; told = t }))
 
         no-slots : (done_by now).held ≡ None → me.1 ≡ []
-        no-slots e = slots-are ∙ ap (slots_while (length x.served % size)) (unheld e)
+        no-slots e = slots-are ∙ ap (slots_while (length x.completed % size)) (unheld e)
 
         fetch-seat : (place r : ℕ) (b : Buffer) (me1 me2 : SeatOf D C) → me1 ≡ (longer (controller_end form) me (controller.Fetched place r b), (place, b) ∷ me.1) → me2 ≡ (me1.0, (place, blank) ∷ rest me1.1) → me2 ≡ (Controller (es ++ controller.Fetched place r b ∷ []), (place, blank) ∷ me.1)
         fetch-seat place r b me1 me2 fetched left = left ∙ ap (λ (m : SeatOf D C). let y : SeatOf D C = (m.0, (place, blank) ∷ rest m.1) in y) fetched
 
         module _ (place r : ℕ) (table' : TableId) (me1 me2 : SeatOf D C) (same : table' ≡ table) (t : Takes (controller_end form) (λ n es p r b. controller.Fetched p r b) (IsNext form) Load (step ring.slots place 0 0 none) me r me1) (left : me2 ≡ (me1.0, (place, blank) ∷ rest me1.1)) where
-          pub fetch-keeps : place ≡ length (done_by now).served % now.table.slots → (done_by now).held ≡ None → IsControllerSeat form table' me2 size mode
+          pub fetch-keeps : place ≡ length (done_by now).completed % now.table.slots → (done_by now).held ≡ None → IsControllerSeat form table' me2 size mode
           fetch-keeps at none_held =
               made table' me2 (es ++ controller.Fetched place r t.buf ∷ []) ((place, blank) ∷ me.1) (control form size x (controller.Fetched place r t.buf)) same (fetch-seat place r t.buf me1 me2 t.adds.seat left) (did size es (controller.Fetched place r t.buf))
               (ap (λ (xs : List (ℕ × Buffer)). (place, blank) ∷ xs) (no-slots none_held) ∙ ap (λ (j : ℕ). (j, blank) ∷ []) (at-serve place at))
@@ -151,16 +151,16 @@ module _ {Ring Posted Served Given D C : Type 0} (form : Form Ring Posted Served
 
         -- C2
         pub request-asks : (id : ℕ) → LoadAsks form table ring key me (Loads (controller_end form) (λ n es i r b. controller.LoadedRequest r) IsControl) id (size + 2)
-        request-asks id = standing.load-asks stands form (Loads (controller_end form) (λ n es i r b. controller.LoadedRequest r) IsControl) id (size + 2) (standing.low size mode (size + 2) (omega arith)) (may-load form size mode (controller_role (form.Lies size mode)) es id its (Loads (controller_end form) (λ n es i r b. controller.LoadedRequest r) IsControl) (size + 2) controller.LoadedRequest (λ r. r ≤ 3)
+        request-asks id = standing.load-asks stands form (Loads (controller_end form) (λ n es i r b. controller.LoadedRequest r) IsControl) id (size + 2) (standing.low size mode (size + 2) (omega arith)) (may-load form size mode (controller_role (form.IsLaidOut size mode)) es id its (Loads (controller_end form) (λ n es i r b. controller.LoadedRequest r) IsControl) (size + 2) controller.LoadedRequest (λ r. r ≤ 3)
             (λ q ds words homes pos l. let a = inv.law.allowed size mode q ds es words homes pos l in let f = a.controller in f.request) (λ r v. record { adds = record { seat = refl; names = refl }; told = v }))
 
         -- C3
         word-asks : (id : ℕ) (told : Control) → MayTell told (controller_of form now) → Asks form table ring key me (stores (controller_end form) (λ n es i r b. answers r)) id (size + 2) (control_word told)
-        word-asks id Enabled may = let m = may.0 in standing.store-asks stands form (stores (controller_end form) (λ n es i r b. answers r)) id (size + 2) 2 (standing.low size mode (size + 2) (omega arith)) (may-store form size mode (controller_role (form.Lies size mode)) es id its (stores (controller_end form) (λ n es i r b. answers r)) (size + 2) 2 controller.Enabled
+        word-asks id Enabled may = let m = may.0 in standing.store-asks stands form (stores (controller_end form) (λ n es i r b. answers r)) id (size + 2) 2 (standing.low size mode (size + 2) (omega arith)) (may-store form size mode (controller_role (form.IsLaidOut size mode)) es id its (stores (controller_end form) (λ n es i r b. answers r)) (size + 2) 2 controller.Enabled
             (λ q ds words homes pos l. let a = inv.law.allowed size mode q ds es words homes pos l in let f = a.controller in f.enable (sym (words-are (λ y n. y.seen)) ∙ m.asked) (sym (words-are (λ y n. is_serving y.state)) ∙ m.idle)) (record { seat = refl; names = refl }))
-        word-asks id Disabled may = standing.store-asks stands form (stores (controller_end form) (λ n es i r b. answers r)) id (size + 2) 0 (standing.low size mode (size + 2) (omega arith)) (may-store form size mode (controller_role (form.Lies size mode)) es id its (stores (controller_end form) (λ n es i r b. answers r)) (size + 2) 0 controller.Disabled
+        word-asks id Disabled may = standing.store-asks stands form (stores (controller_end form) (λ n es i r b. answers r)) id (size + 2) 0 (standing.low size mode (size + 2) (omega arith)) (may-store form size mode (controller_role (form.IsLaidOut size mode)) es id its (stores (controller_end form) (λ n es i r b. answers r)) (size + 2) 0 controller.Disabled
             (λ q ds words homes pos l. let a = inv.law.allowed size mode q ds es words homes pos l in let f = a.controller in f.disable (sym (words-are (λ y n. y.seen)) ∙ may.asked) (serves may.serving) (unheld may.held)
-            (sym (words-are (λ y n. y.head)) ∙ may.head ∙ words-are (λ y n. length y.served % n)) (here (λ n m xs. form.MayDisable (controlling form n xs)) may.may)) (record { seat = refl; names = refl }))
+            (sym (words-are (λ y n. y.head)) ∙ may.head ∙ words-are (λ y n. length y.completed % n)) (here (λ n m xs. form.MayDisable (controlling form n xs)) may.may)) (record { seat = refl; names = refl }))
         word-asks id EnableAsked may = absurd may
         word-asks id DisableAsked may = absurd may
 
@@ -178,7 +178,7 @@ module _ {Ring Posted Served Given D C : Type 0} (form : Form Ring Posted Served
         tell-slots v unheld_here = either (v == 2)
           where
             either : (b : Bool) → controller_slots size x ≡ controller_slots size (control form size x (if b then controller.Enabled else controller.Disabled))
-            either true = ap (slots_while (length x.served % size)) unheld_here ∙ sym (ap (slots_while (0 % size)) unheld_here)
+            either true = ap (slots_while (length x.completed % size)) unheld_here ∙ sym (ap (slots_while (0 % size)) unheld_here)
             either false = refl
 
         -- Steps of one direction's own
@@ -188,7 +188,7 @@ module _ {Ring Posted Served Given D C : Type 0} (form : Form Ring Posted Served
             store-may = here (λ n m xs. MayStore form event n m xs word v) may
 
             pub store_own-asks : (id : ℕ) → Asks form table ring key me (stores (controller_end form) event) id word v
-            store_own-asks id = let m = store-may in standing.store-asks stands form (stores (controller_end form) event) id word v m.word_is (may-store form size mode (controller_role (form.Lies size mode)) es id its (stores (controller_end form) event) word v (event size es word v blank) m.goes (record { seat = refl; names = m.names }))
+            store_own-asks id = let m = store-may in standing.store-asks stands form (stores (controller_end form) event) id word v m.word_is (may-store form size mode (controller_role (form.IsLaidOut size mode)) es id its (stores (controller_end form) event) word v (event size es word v blank) m.goes (record { seat = refl; names = m.names }))
 
             module _ (table' : TableId) (me' : SeatOf D C) (t : table' ≡ table) (stored : me' ≡ (longer (controller_end form) me (event ring.slots es word v blank), me.1)) where
               store_own-seat : me' ≡ (longer (controller_end form) me (event size es word v blank), me.1)
@@ -196,22 +196,22 @@ module _ {Ring Posted Served Given D C : Type 0} (form : Form Ring Posted Served
 
               pub store_own-keeps : IsControllerSeat form table' me' size mode
               store_own-keeps = let m = store-may in same-keeps (event size es word v blank) table' me' t store_own-seat
-                  (ap (λ (j : ℕ). slots_while (j % size) x.held) (sym m.served) ∙ ap (slots_while (length (control form size x (event size es word v blank)).served % size)) (sym m.held))
+                  (ap (λ (j : ℕ). slots_while (j % size) x.held) (sym m.completed) ∙ ap (slots_while (length (control form size x (event size es word v blank)).completed % size)) (sym m.held))
 
               pub store_own-steps : side table' me' ≡ grown now (event now.table.slots now.events word v blank)
               store_own-steps = same-steps (event size es word v blank) table' me' t store_own-seat ∙ ap (grown now) (back-there (λ n m xs. event size es word v blank ≡ event n xs word v blank) refl)
 
           -- the fetched buffer is given back
-          module _ (place : ℕ) (b : Buffer) (at : place ≡ length (done_by now).served % now.table.slots) (holds : (h : Buffer) × ((done_by now).held ≡ Some h)) where
+          module _ (place : ℕ) (b : Buffer) (at : place ≡ length (done_by now).completed % now.table.slots) (holds : (h : Buffer) × ((done_by now).held ≡ Some h)) where
             held-slot : me.1 ≡ (place, blank) ∷ []
-            held-slot = slots-are ∙ ap (slots_while (length x.served % size)) (sym (words-are (λ y n. y.held)) ∙ holds.1) ∙ ap (λ (j : ℕ). (j, blank) ∷ []) (sym (at-serve place at))
+            held-slot = slots-are ∙ ap (slots_while (length x.completed % size)) (sym (words-are (λ y n. y.held)) ∙ holds.1) ∙ ap (λ (j : ℕ). (j, blank) ∷ []) (sym (at-serve place at))
 
             pub give_own-empty : me.1 ≡ (place, blank) ∷ rest me.1
             give_own-empty = front-is me.1 [] (place, blank) held-slot
 
-            module _ (may : MayGive form event now.table.slots now.completion now.events place word v b) where
-              give-may : MayGive form event size mode (controller_part me.0) place word v b
-              give-may = here (λ n m xs. MayGive form event n m xs place word v b) may
+            module _ (may : MayReap form event now.table.slots now.completion now.events place word v b) where
+              give-may : MayReap form event size mode (controller_part me.0) place word v b
+              give-may = here (λ n m xs. MayReap form event n m xs place word v b) may
 
               pub give_own-asks : (id : ℕ) (table' : TableId) (me' : SeatOf D C) → table' ≡ table → me' ≡ (me.0, (place, b) ∷ rest me.1)
                   → (table' ≡ ring) × (word < ring.words) × Allows (IsRuled form key.0 key.1) ring.slots id me' word (λ _. v) (λ _. gives (controller_end form) event (step ring.slots word v 0 none) me' v)
@@ -220,7 +220,7 @@ module _ {Ring Posted Served Given D C : Type 0} (form : Form Ring Posted Served
                 standing.within stands word k.word_is,
                 standing.allow-at stands form (λ n z r z'. gives (controller_end form) event (step n word v 0 none) z v z') id word (λ _. v) (Controller es, (place, b) ∷ rest me.1) me'
                     (m ∙ ap (λ (w : View (DriverEvent D) (ControllerEvent C)). let z : SeatOf D C = (w, (place, b) ∷ rest me.1) in z) view-is)
-                    (may-give form size mode (controller_role (form.Lies size mode)) es id (rest me.1) (gives (controller_end form) event) word v place b (event size es word v b) k.goes (record { seat = refl; names = k.names })),
+                    (may-reap form size mode (controller_role (form.IsLaidOut size mode)) es id (rest me.1) (gives (controller_end form) event) word v place b (event size es word v b) k.goes (record { seat = refl; names = k.names })),
               )
 
               module _ (table' : TableId) (me1 me2 : SeatOf D C) (t : table' ≡ table) (put : me1 ≡ (me.0, (place, b) ∷ rest me.1)) (gave : me2 ≡ (longer (controller_end form) me1 (event ring.slots (controller_part me1.0) word v (front_buffer me1.1)), rest me1.1)) where
@@ -231,7 +231,7 @@ module _ {Ring Posted Served Given D C : Type 0} (form : Form Ring Posted Served
 
                 pub give_own-keeps : IsControllerSeat form table' me2 size mode
                 give_own-keeps = let k = give-may in made table' me2 (es ++ event size es word v b ∷ []) [] (control form size x (event size es word v b)) t give_own-seat (did size es (event size es word v b))
-                    (sym (ap (slots_while (length (control form size x (event size es word v b)).served % size)) k.held))
+                    (sym (ap (slots_while (length (control form size x (event size es word v b)).completed % size)) k.held))
 
                 pub give_own-steps : side table' me2 ≡ grown now (event now.table.slots now.events word v b)
                 give_own-steps = one-more (event size es word v b) table' me2 [] t give_own-seat ∙ ap (grown now) (back-there (λ n m xs. event size es word v b ≡ event n xs word v b) refl)

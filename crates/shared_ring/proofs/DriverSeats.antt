@@ -29,17 +29,17 @@ use Rattle.shared_ring.specs.Seats.{driver_part}
 use Rattle.shared_ring.specs.Slots.{empty_slots, front_buffer}
 use Rattle.shared_ring.specs.Tables.{IsTableOf, words_of}
 use Rattle.shared_ring.proofs.Allowing.{driver_role}
-use Rattle.shared_ring.proofs.Allowed.{may-store, may-load, may-clear, may-find, may-give}
+use Rattle.shared_ring.proofs.Allowed.{may-store, may-load, may-clear, may-find, may-reap}
 use Rattle.shared_ring.proofs.Standing as standing
 use Rattle.shared_ring.proofs.Standing.{as-made, Asks, LoadAsks, front-is}
 use Rattle.shared_ring.proofs.Folds.{driving-snoc, slots-post, slots-return, slots-alike}
 
-module _ {Ring Posted Served Given D C : Type 0} (form : Form Ring Posted Served Given D C) where
+module _ {Ring Posted Completed Reaped D C : Type 0} (form : Form Ring Posted Completed Reaped D C) where
   abbrev End : Type 0
   End = Side (DriverEvent D)
 
   -- what an end did
-  abbrev done_by : End → Driven Posted Given
+  abbrev done_by : End → Driven Posted Reaped
   done_by s = driving form s.events
 
   did : (es : List (DriverEvent D)) (e : DriverEvent D) → driving form (es ++ e ∷ []) ≡ drive form (driving form es) e
@@ -49,7 +49,7 @@ module _ {Ring Posted Served Given D C : Type 0} (form : Form Ring Posted Served
     abbrev es : List (DriverEvent D)
     es = driver_part me.0
 
-    abbrev d : Driven Posted Given
+    abbrev d : Driven Posted Reaped
     d = driving form (driver_part me.0)
 
     abbrev its : List (ℕ × Buffer)
@@ -68,21 +68,21 @@ module _ {Ring Posted Served Given D C : Type 0} (form : Form Ring Posted Served
     slots-are = ap (λ (m : SeatOf D C). m.1) inv.me_is
 
     -- a seat whose record is es' and whose slots are those that it tells
-    made : (table' : TableId) (me' : SeatOf D C) (es' : List (DriverEvent D)) (slots' : List (ℕ × Buffer)) (d' : Driven Posted Given) → table' ≡ table → me' ≡ (Driver es', slots') → driving form es' ≡ d' → slots' ≡ driver_slots size d' → IsWindow size d' → IsDriverSeat form table' me' size mode
+    made : (table' : TableId) (me' : SeatOf D C) (es' : List (DriverEvent D)) (slots' : List (ℕ × Buffer)) (d' : Driven Posted Reaped) → table' ≡ table → me' ≡ (Driver es', slots') → driving form es' ≡ d' → slots' ≡ driver_slots size d' → IsWindow size d' → IsDriverSeat form table' me' size mode
     made table' me' es' slots' d' t m e s w = as-made table table' me me' (Driver es', slots') size mode inv t m (ap (λ (xs : List (ℕ × Buffer)). let x : SeatOf D C = (Driver es', xs) in x) (s ∙ ap (driver_slots size) (sym e))) (subst (IsWindow size) (sym e) w)
 
     -- a step that leaves what is posted and what came back
     pub same-keeps : (e : DriverEvent D) (table' : TableId) (me' : SeatOf D C) → table' ≡ table → me' ≡ (longer (driver_end form) me e, me.1) → SameOut d (drive form d e) → IsDriverSeat form table' me' size mode
     same-keeps e table' me' t m s = let w = inv.stands in
-        made table' me' (driver_part me.0 ++ e ∷ []) me.1 (drive form d e) t m (did (driver_part me.0) e) (slots-are ∙ sym (rw (s.posted, s.given, s.reclaimed) refl))
-        (record { back = rw (s.posted, s.given, s.reclaimed) w.back; room = rw (s.posted, s.given, s.reclaimed) w.room })
+        made table' me' (driver_part me.0 ++ e ∷ []) me.1 (drive form d e) t m (did (driver_part me.0) e) (slots-are ∙ sym (rw (s.posted, s.reaped, s.reclaimed) refl))
+        (record { back = rw (s.posted, s.reaped, s.reclaimed) w.back; room = rw (s.posted, s.reaped, s.reclaimed) w.room })
 
     pub asked-out : (v : ℕ) → SameOut d (drive form d (asks v))
     asked-out v = either (v == 1)
       where
         either : (b : Bool) → SameOut d (drive form d (if b then driver.AskedEnable else driver.AskedDisable))
-        either true = record { posted = refl; given = refl; reclaimed = refl }
-        either false = record { posted = refl; given = refl; reclaimed = refl }
+        either true = record { posted = refl; reaped = refl; reclaimed = refl }
+        either false = record { posted = refl; reaped = refl; reclaimed = refl }
 
     module _ (now : End) (was : side table me ≡ now) where
       -- the record of the end after a step that its table keeps
@@ -94,7 +94,7 @@ module _ {Ring Posted Served Given D C : Type 0} (form : Form Ring Posted Served
       same-steps e table' me' t m = one-more e table' me' me.1 t m
 
       -- what a contract says of the end goes for the record
-      words-are : {Y : Type 0} (f : Driven Posted Given → ℕ → Y) → f (done_by now) now.table.slots ≡ f d size
+      words-are : {Y : Type 0} (f : Driven Posted Reaped → ℕ → Y) → f (done_by now) now.table.slots ≡ f d size
       words-are f = ap (λ (s : End). f (done_by s) s.table.slots) (sym was) ∙ ap (f d) inv.size_is
 
       at-size : (F : ℕ → Type 0) → F now.table.slots → F size
@@ -110,11 +110,11 @@ module _ {Ring Posted Served Given D C : Type 0} (form : Form Ring Posted Served
       filled : (place : ℕ) → place ≡ length (done_by now).posted % now.table.slots → place ≡ length d.posted % size
       filled place e = e ∙ words-are (λ x n. length x.posted % n)
 
-      next-is : (place : ℕ) → place ≡ (length (done_by now).given + (done_by now).reclaimed) % now.table.slots → place ≡ (length d.given + d.reclaimed) % size
-      next-is place e = e ∙ words-are (λ x n. (length x.given + x.reclaimed) % n)
+      next-is : (place : ℕ) → place ≡ (length (done_by now).reaped + (done_by now).reclaimed) % now.table.slots → place ≡ (length d.reaped + d.reclaimed) % size
+      next-is place e = e ∙ words-are (λ x n. (length x.reaped + x.reclaimed) % n)
 
-      out-is : length (done_by now).given + (done_by now).reclaimed < length (done_by now).posted → length d.given + d.reclaimed < length d.posted
-      out-is h = subst (λ (x : Driven Posted Given). length x.given + x.reclaimed < length x.posted) (words-are (λ x n. x)) h
+      out-is : length (done_by now).reaped + (done_by now).reclaimed < length (done_by now).posted → length d.reaped + d.reclaimed < length d.posted
+      out-is h = subst (λ (x : Driven Posted Reaped). length x.reaped + x.reclaimed < length x.posted) (words-are (λ x n. x)) h
 
       below : (place i : ℕ) → place ≡ i % size → place < words_of size mode
       below place i e = standing.below size mode place i big e
@@ -131,13 +131,13 @@ module _ {Ring Posted Served Given D C : Type 0} (form : Form Ring Posted Served
 
         -- A1, B1
         module _ (place word : ℕ) (b : Buffer) (at : place ≡ length (done_by now).posted % now.table.slots)
-            (open_room : length (done_by now).posted + 1 < length (done_by now).given + (done_by now).reclaimed + now.table.slots) where
-          room : length d.posted + 1 < length d.given + d.reclaimed + size
-          room = here (λ n m xs. length (driving form xs).posted + 1 < length (driving form xs).given + (driving form xs).reclaimed + n) open_room
+            (open_room : length (done_by now).posted + 1 < length (done_by now).reaped + (done_by now).reclaimed + now.table.slots) where
+          room : length d.posted + 1 < length d.reaped + d.reclaimed + size
+          room = here (λ n m xs. length (driving form xs).posted + 1 < length (driving form xs).reaped + (driving form xs).reclaimed + n) open_room
 
-          front : me.1 ≡ (place, blank) ∷ empty_slots size (length d.posted + 1) (length d.given + d.reclaimed + size - (length d.posted + 1))
-          front = let r = room in slots-are ∙ slots-post size (length d.posted) (length d.given + d.reclaimed) (omega arith)
-              ∙ ap (λ (j : ℕ). (j, blank) ∷ empty_slots size (length d.posted + 1) (length d.given + d.reclaimed + size - (length d.posted + 1))) (sym (filled place at))
+          front : me.1 ≡ (place, blank) ∷ empty_slots size (length d.posted + 1) (length d.reaped + d.reclaimed + size - (length d.posted + 1))
+          front = let r = room in slots-are ∙ slots-post size (length d.posted) (length d.reaped + d.reclaimed) (omega arith)
+              ∙ ap (λ (j : ℕ). (j, blank) ∷ empty_slots size (length d.posted + 1) (length d.reaped + d.reclaimed + size - (length d.posted + 1))) (sym (filled place at))
 
           pub post-empty : me.1 ≡ (place, blank) ∷ rest me.1
           post-empty = front-is me.1 _ (place, blank) front
@@ -149,7 +149,7 @@ module _ {Ring Posted Served Given D C : Type 0} (form : Form Ring Posted Served
             standing.within stands place (below place (length d.posted) (filled place at)),
             standing.allow-at stands form (λ n z r z'. gives (driver_end form) (λ n es p r b. driver.Posted p r b) (step n place word 0 none) z word z') id place (λ _. word) (Driver es, (place, b) ∷ rest me.1) me'
                 (m ∙ ap (λ (v : View (DriverEvent D) (ControllerEvent C)). let x : SeatOf D C = (v, (place, b) ∷ rest me.1) in x) view-is)
-                (may-give form size mode (driver_role (form.Lies size mode)) es id (rest me.1) (gives (driver_end form) (λ n es p r b. driver.Posted p r b)) place word place b (driver.Posted place word b)
+                (may-reap form size mode (driver_role (form.IsLaidOut size mode)) es id (rest me.1) (gives (driver_end form) (λ n es p r b. driver.Posted p r b)) place word place b (driver.Posted place word b)
                 (λ q cs words homes pos l. let a = inv.law.allowed size mode q es cs words homes pos l in let f = a.driver in
                 f.post place word b (filled place at) (sym (words-are (λ x n. is_open x.state)) ∙ opened) room (here (λ n m xs. form.MayPost n (driving form xs).posted word b) may)) (record { seat = refl; names = refl })),
           )
@@ -160,7 +160,7 @@ module _ {Ring Posted Served Given D C : Type 0} (form : Form Ring Posted Served
           pub post-keeps : (table' : TableId) (me' me'' : SeatOf D C) → table' ≡ table → me' ≡ (me.0, (place, b) ∷ rest me.1) → me'' ≡ (longer (driver_end form) me' (driver.Posted place word (front_buffer me'.1)), rest me'.1) → IsDriverSeat form table' me'' size mode
           post-keeps table' me' me'' t put stored = let e = length-append d.posted (form.posting word b ∷ []) in let w = inv.stands in let bk = w.back in let r = room in
               made table' me'' (es ++ driver.Posted place word b ∷ []) (rest me.1) (drive form d (driver.Posted place word b)) t (post-seat me' me'' put stored) (did es (driver.Posted place word b))
-              (ap rest front ∙ ap (λ (j : ℕ). empty_slots size j (length d.given + d.reclaimed + size - j)) (sym e))
+              (ap rest front ∙ ap (λ (j : ℕ). empty_slots size j (length d.reaped + d.reclaimed + size - j)) (sym e))
               (record { back = omega arith; room = omega arith })
 
           pub post-steps : (table' : TableId) (me' me'' : SeatOf D C) → table' ≡ table → me' ≡ (me.0, (place, b) ∷ rest me.1) → me'' ≡ (longer (driver_end form) me' (driver.Posted place word (front_buffer me'.1)), rest me'.1) → side table' me'' ≡ grown now (driver.Posted place word b)
@@ -168,15 +168,15 @@ module _ {Ring Posted Served Given D C : Type 0} (form : Form Ring Posted Served
 
         -- A2, B2
         pub publish-asks : (id t : ℕ) → t ≡ length (done_by now).posted % now.table.slots → is_open (done_by now).state ≡ true → form.MayPublish (done_by now).posted → Asks form table ring key me (stores (driver_end form) (λ n es i r b. driver.Published r)) id (size + 1) t
-        publish-asks id t at opened may = standing.store-asks stands form (stores (driver_end form) (λ n es i r b. driver.Published r)) id (size + 1) t (standing.low size mode (size + 1) (omega arith)) (may-store form size mode (driver_role (form.Lies size mode)) es id its (stores (driver_end form) (λ n es i r b. driver.Published r)) (size + 1) t (driver.Published t)
+        publish-asks id t at opened may = standing.store-asks stands form (stores (driver_end form) (λ n es i r b. driver.Published r)) id (size + 1) t (standing.low size mode (size + 1) (omega arith)) (may-store form size mode (driver_role (form.IsLaidOut size mode)) es id its (stores (driver_end form) (λ n es i r b. driver.Published r)) (size + 1) t (driver.Published t)
             (λ q cs words homes pos l. let a = inv.law.allowed size mode q es cs words homes pos l in let f = a.driver in
             f.publish t (filled t at) (sym (words-are (λ x n. is_open x.state)) ∙ opened) (here (λ n m xs. form.MayPublish (driving form xs).posted) may)) (record { seat = refl; names = refl }))
 
         -- C1, C5
         word-asks : (id : ℕ) (request : Control) → MayAsk request (done_by now).state → Asks form table ring key me (stores (driver_end form) (λ n es i r b. asks r)) id (size + 2) (control_word request)
-        word-asks id EnableAsked new = standing.store-asks stands form (stores (driver_end form) (λ n es i r b. asks r)) id (size + 2) 1 (standing.low size mode (size + 2) (omega arith)) (may-store form size mode (driver_role (form.Lies size mode)) es id its (stores (driver_end form) (λ n es i r b. asks r)) (size + 2) 1 driver.AskedEnable
+        word-asks id EnableAsked new = standing.store-asks stands form (stores (driver_end form) (λ n es i r b. asks r)) id (size + 2) 1 (standing.low size mode (size + 2) (omega arith)) (may-store form size mode (driver_role (form.IsLaidOut size mode)) es id its (stores (driver_end form) (λ n es i r b. asks r)) (size + 2) 1 driver.AskedEnable
             (λ q cs words homes pos l. let a = inv.law.allowed size mode q es cs words homes pos l in let f = a.driver in f.ask_enable (sym (words-are (λ x n. is_new x.state)) ∙ new)) (record { seat = refl; names = refl }))
-        word-asks id DisableAsked on = standing.store-asks stands form (stores (driver_end form) (λ n es i r b. asks r)) id (size + 2) 3 (standing.low size mode (size + 2) (omega arith)) (may-store form size mode (driver_role (form.Lies size mode)) es id its (stores (driver_end form) (λ n es i r b. asks r)) (size + 2) 3 driver.AskedDisable
+        word-asks id DisableAsked on = standing.store-asks stands form (stores (driver_end form) (λ n es i r b. asks r)) id (size + 2) 3 (standing.low size mode (size + 2) (omega arith)) (may-store form size mode (driver_role (form.IsLaidOut size mode)) es id its (stores (driver_end form) (λ n es i r b. asks r)) (size + 2) 3 driver.AskedDisable
             (λ q cs words homes pos l. let a = inv.law.allowed size mode q es cs words homes pos l in let f = a.driver in f.ask_disable (sym (words-are (λ x n. is_on x.state)) ∙ on)) (record { seat = refl; names = refl }))
         word-asks id Disabled may = absurd may
         word-asks id Enabled may = absurd may
@@ -186,23 +186,23 @@ module _ {Ring Posted Served Given D C : Type 0} (form : Form Ring Posted Served
 
         -- C4
         pub control-asks : (id : ℕ) → LoadAsks form table ring key me (Loads (driver_end form) (λ n es i r b. driver.LoadedControl r) IsControl) id (size + 2)
-        control-asks id = standing.load-asks stands form (Loads (driver_end form) (λ n es i r b. driver.LoadedControl r) IsControl) id (size + 2) (standing.low size mode (size + 2) (omega arith)) (may-load form size mode (driver_role (form.Lies size mode)) es id its (Loads (driver_end form) (λ n es i r b. driver.LoadedControl r) IsControl) (size + 2) driver.LoadedControl (λ r. r ≤ 3)
+        control-asks id = standing.load-asks stands form (Loads (driver_end form) (λ n es i r b. driver.LoadedControl r) IsControl) id (size + 2) (standing.low size mode (size + 2) (omega arith)) (may-load form size mode (driver_role (form.IsLaidOut size mode)) es id its (Loads (driver_end form) (λ n es i r b. driver.LoadedControl r) IsControl) (size + 2) driver.LoadedControl (λ r. r ≤ 3)
             (λ q cs words homes pos l. let a = inv.law.allowed size mode q es cs words homes pos l in let f = a.driver in f.control) (λ r v. record { adds = record { seat = refl; names = refl }; told = v }))
 
         -- the load of the head
         pub head-asks : (id : ℕ) → is_stopped (done_by now).state ≡ true → LoadAsks form table ring key me (Loads (driver_end form) (λ n es i r b. driver.LoadedHead r) IsPlace) id size
-        head-asks id stopped = standing.load-asks stands form (Loads (driver_end form) (λ n es i r b. driver.LoadedHead r) IsPlace) id size (standing.low size mode size (omega arith)) (may-load form size mode (driver_role (form.Lies size mode)) es id its (Loads (driver_end form) (λ n es i r b. driver.LoadedHead r) IsPlace) size driver.LoadedHead (λ r. r < size)
+        head-asks id stopped = standing.load-asks stands form (Loads (driver_end form) (λ n es i r b. driver.LoadedHead r) IsPlace) id size (standing.low size mode size (omega arith)) (may-load form size mode (driver_role (form.IsLaidOut size mode)) es id its (Loads (driver_end form) (λ n es i r b. driver.LoadedHead r) IsPlace) size driver.LoadedHead (λ r. r < size)
             (λ q cs words homes pos l. let a = inv.law.allowed size mode q es cs words homes pos l in let f = a.driver in f.head (sym (words-are (λ x n. is_stopped x.state)) ∙ stopped)) (λ r v. record { adds = record { seat = refl; names = refl }; told = v }))
 
         -- C9
-        pub clear_head-asks : (id : ℕ) → is_stopped (done_by now).state ≡ true → length (done_by now).given + (done_by now).reclaimed ≡ length (done_by now).posted → Asks form table ring key me (stores (driver_end form) (λ n es i r b. driver.ClearedHead)) id size 0
-        clear_head-asks id stopped back = standing.store-asks stands form (stores (driver_end form) (λ n es i r b. driver.ClearedHead)) id size 0 (standing.low size mode size (omega arith)) (may-store form size mode (driver_role (form.Lies size mode)) es id its (stores (driver_end form) (λ n es i r b. driver.ClearedHead)) size 0 driver.ClearedHead
+        pub clear_head-asks : (id : ℕ) → is_stopped (done_by now).state ≡ true → length (done_by now).reaped + (done_by now).reclaimed ≡ length (done_by now).posted → Asks form table ring key me (stores (driver_end form) (λ n es i r b. driver.ClearedHead)) id size 0
+        clear_head-asks id stopped back = standing.store-asks stands form (stores (driver_end form) (λ n es i r b. driver.ClearedHead)) id size 0 (standing.low size mode size (omega arith)) (may-store form size mode (driver_role (form.IsLaidOut size mode)) es id its (stores (driver_end form) (λ n es i r b. driver.ClearedHead)) size 0 driver.ClearedHead
             (λ q cs words homes pos l. let a = inv.law.allowed size mode q es cs words homes pos l in let f = a.driver in f.clear_head (sym (words-are (λ x n. is_stopped x.state)) ∙ stopped)
-            (sym (words-are (λ x n. length x.given + x.reclaimed)) ∙ back ∙ words-are (λ x n. length x.posted))) (record { seat = refl; names = refl }))
+            (sym (words-are (λ x n. length x.reaped + x.reclaimed)) ∙ back ∙ words-are (λ x n. length x.posted))) (record { seat = refl; names = refl }))
 
         -- C10
         pub clear_tail-asks : (id : ℕ) → form.MayClearTail now.completion → is_cleared (done_by now).state ≡ true → Asks form table ring key me (stores (driver_end form) (λ n es i r b. driver.ClearedTail)) id (size + 1) 0
-        clear_tail-asks id may cleared = standing.store-asks stands form (stores (driver_end form) (λ n es i r b. driver.ClearedTail)) id (size + 1) 0 (standing.low size mode (size + 1) (omega arith)) (may-store form size mode (driver_role (form.Lies size mode)) es id its (stores (driver_end form) (λ n es i r b. driver.ClearedTail)) (size + 1) 0 driver.ClearedTail
+        clear_tail-asks id may cleared = standing.store-asks stands form (stores (driver_end form) (λ n es i r b. driver.ClearedTail)) id (size + 1) 0 (standing.low size mode (size + 1) (omega arith)) (may-store form size mode (driver_role (form.IsLaidOut size mode)) es id its (stores (driver_end form) (λ n es i r b. driver.ClearedTail)) (size + 1) 0 driver.ClearedTail
             (λ q cs words homes pos l. let a = inv.law.allowed size mode q es cs words homes pos l in let f = a.driver in f.clear_tail (here (λ n m xs. form.MayClearTail m) may) (sym (words-are (λ x n. is_cleared x.state)) ∙ cleared)) (record { seat = refl; names = refl }))
 
         -- Steps of one direction's own
@@ -214,7 +214,7 @@ module _ {Ring Posted Served Given D C : Type 0} (form : Form Ring Posted Served
 
             pub load_own-asks : (id : ℕ) → LoadAsks form table ring key me (Loads (driver_end form) event tells) id word
             load_own-asks id = let m = load-may in standing.load-asks stands form (Loads (driver_end form) event tells) id word m.word_is
-                (may-load form size mode (driver_role (form.Lies size mode)) es id its (Loads (driver_end form) event tells) word (λ r. event size es word r blank) (λ r. tells size es word r blank) m.goes (λ r t. record { adds = record { seat = refl; names = m.names r }; told = t }))
+                (may-load form size mode (driver_role (form.IsLaidOut size mode)) es id its (Loads (driver_end form) event tells) word (λ r. event size es word r blank) (λ r. tells size es word r blank) m.goes (λ r t. record { adds = record { seat = refl; names = m.names r }; told = t }))
 
             module _ (r : ℕ) (me' : SeatOf D C) (told : Loads (driver_end form) event tells (step ring.slots word 0 0 none) me r me') where
               load_own-seat : me' ≡ (longer (driver_end form) me (event size es word r blank), me.1)
@@ -230,7 +230,7 @@ module _ {Ring Posted Served Given D C : Type 0} (form : Form Ring Posted Served
               load_own-told = back-there (λ n m xs. tells n xs word r blank) (subst (λ (n : ℕ). tells n es word r blank) counts told.told)
 
           -- a buffer comes back
-          module _ (place : ℕ) (at : place ≡ (length (done_by now).given + (done_by now).reclaimed) % now.table.slots) (out : length (done_by now).given + (done_by now).reclaimed < length (done_by now).posted) where
+          module _ (place : ℕ) (at : place ≡ (length (done_by now).reaped + (done_by now).reclaimed) % now.table.slots) (out : length (done_by now).reaped + (done_by now).reclaimed < length (done_by now).posted) where
             back-seat : (e : DriverEvent D) (b : Buffer) (me1 me2 me3 : SeatOf D C) → me1 ≡ (longer (driver_end form) me e, (place, b) ∷ me.1) → me2 ≡ (me1.0, (place, blank) ∷ rest me1.1) → me3 ≡ (me2.0, turned me2.1) → me3 ≡ (Driver (es ++ e ∷ []), me.1 ++ (place, blank) ∷ [])
             back-seat e b me1 me2 me3 s l t = t ∙ ap (λ (m : SeatOf D C). let x : SeatOf D C = (m.0, turned m.1) in x) l ∙ ap (λ (m : SeatOf D C). let x : SeatOf D C = (m.0, turned ((place, blank) ∷ rest m.1)) in x) s
 
@@ -241,9 +241,9 @@ module _ {Ring Posted Served Given D C : Type 0} (form : Form Ring Posted Served
                 made table' me3 (es ++ e ∷ []) (me.1 ++ (place, blank) ∷ []) (drive form d e) t (back-seat e b me1 me2 me3 s l r) (did es e)
                 (ap (λ (xs : List (ℕ × Buffer)). xs ++ (place, blank) ∷ []) slots-are
                 ∙ ap (λ (j : ℕ). its ++ (j, blank) ∷ []) (next-is place at)
-                ∙ slots-return size (length d.posted) (length d.given + d.reclaimed) (omega arith)
+                ∙ slots-return size (length d.posted) (length d.reaped + d.reclaimed) (omega arith)
                 ∙ ap (λ (j : ℕ). empty_slots size (length d.posted) (j + size - length d.posted)) (sym c)
-                ∙ ap (λ (xs : List Posted). empty_slots size (length xs) (length (drive form d e).given + (drive form d e).reclaimed + size - length xs)) (sym one.posted))
+                ∙ ap (λ (xs : List Posted). empty_slots size (length xs) (length (drive form d e).reaped + (drive form d e).reclaimed + size - length xs)) (sym one.posted))
                 (record { back = omega arith; room = omega arith })
 
             -- what the event is, of what was loaded there or stored
@@ -266,8 +266,8 @@ module _ {Ring Posted Served Given D C : Type 0} (form : Form Ring Posted Served
               clear-may = here (λ n m xs. MayClear form event tells n m xs place) may
 
               pub clear_own-asks : (id : ℕ) → Asks form table ring key me (Takes (driver_end form) event tells Store) id place 0
-              clear_own-asks id = let m = clear-may in standing.store-asks stands form (Takes (driver_end form) event tells Store) id place 0 (below place (length d.given + d.reclaimed) (next-is place at))
-                  (may-clear form size mode (driver_role (form.Lies size mode)) es id its (Takes (driver_end form) event tells Store) place (λ b. event size es place 0 b) (λ b. tells size es place 0 b)
+              clear_own-asks id = let m = clear-may in standing.store-asks stands form (Takes (driver_end form) event tells Store) id place 0 (below place (length d.reaped + d.reclaimed) (next-is place at))
+                  (may-clear form size mode (driver_role (form.IsLaidOut size mode)) es id its (Takes (driver_end form) event tells Store) place (λ b. event size es place 0 b) (λ b. tells size es place 0 b)
                   (λ q cs words homes pos l. let o = m.goes q cs words homes pos l in (o.buf, o.home, o.told, o.agrees)) (λ b t. record { buf = b; adds = record { seat = refl; names = m.names b }; told = t }))
 
               module _ (b : Buffer) (table' : TableId) (me1 me2 me3 : SeatOf D C) (same : table' ≡ table) (t : Takes (driver_end form) event tells Store (step ring.slots place 0 0 none) me 0 me1) (l : me2 ≡ (me1.0, (place, blank) ∷ rest me1.1)) (turn : me3 ≡ (me2.0, turned me2.1)) where
@@ -286,8 +286,8 @@ module _ {Ring Posted Served Given D C : Type 0} (form : Form Ring Posted Served
               take-may = here (λ n m xs. MayTake form event tells n m xs missed done place) may
 
               pub take_own-asks : (id : ℕ) → LoadAsks form table ring key me (Finds (driver_end form) event tells missed done) id place
-              take_own-asks id = let m = take-may in standing.load-asks stands form (Finds (driver_end form) event tells missed done) id place (below place (length d.given + d.reclaimed) (next-is place at))
-                  (may-find form size mode (driver_role (form.Lies size mode)) es id its (Finds (driver_end form) event tells missed done) place done (missed place) (λ r b. event size es place r b) (λ r b. tells size es place r b)
+              take_own-asks id = let m = take-may in standing.load-asks stands form (Finds (driver_end form) event tells missed done) id place (below place (length d.reaped + d.reclaimed) (next-is place at))
+                  (may-find form size mode (driver_role (form.IsLaidOut size mode)) es id its (Finds (driver_end form) event tells missed done) place done (missed place) (λ r b. event size es place r b) (λ r b. tells size es place r b)
                   m.undone (λ q cs words homes pos l f. let o = m.goes q cs words homes pos l f in (o.buf, o.home, o.told, o.agrees))
                   (λ r f. record { undone = λ e. record { seat = refl; names = m.names_missed r }; taken = λ e. absurd (false≢true (sym f ∙ e)) })
                   (λ r b f t. record { undone = λ e. absurd (false≢true (sym e ∙ f)); taken = λ e. record { buf = b; adds = record { seat = refl; names = m.names r b }; told = t } }))
@@ -312,16 +312,16 @@ module _ {Ring Posted Served Given D C : Type 0} (form : Form Ring Posted Served
             end-may = here (λ n m xs. MayEnd form event n m xs word) may
 
             pub end_own-asks : (id : ℕ) → Asks form table ring key me (stores (driver_end form) event) id word 0
-            end_own-asks id = let m = end-may in standing.store-asks stands form (stores (driver_end form) event) id word 0 m.word_is (may-store form size mode (driver_role (form.Lies size mode)) es id its (stores (driver_end form) event) word 0 (event size es word 0 blank) m.goes (record { seat = refl; names = m.names }))
+            end_own-asks id = let m = end-may in standing.store-asks stands form (stores (driver_end form) event) id word 0 m.word_is (may-store form size mode (driver_role (form.IsLaidOut size mode)) es id its (stores (driver_end form) event) word 0 (event size es word 0 blank) m.goes (record { seat = refl; names = m.names }))
 
             module _ (me1 : SeatOf D C) (ends : me1 ≡ (longer (driver_end form) me (event ring.slots es word 0 blank), me.1)) where
               end-seat : me1 ≡ (longer (driver_end form) me (event size es word 0 blank), me.1)
               end-seat = ends ∙ ap (λ (n : ℕ). let x : SeatOf D C = (longer (driver_end form) me (event n es word 0 blank), me.1) in x) counts
 
               -- all slots are with the seat, and the one in front is that of the place
-              pub turn-asks : (place : ℕ) → place ≡ length (done_by now).posted % now.table.slots → length (done_by now).given + (done_by now).reclaimed ≡ length (done_by now).posted → me1.1 ≡ empty_slots size place size
-              turn-asks place at back = let b : length d.given + d.reclaimed ≡ length d.posted = sym (words-are (λ x n. length x.given + x.reclaimed)) ∙ back ∙ words-are (λ x n. length x.posted) in
-                  ap (λ (m : SeatOf D C). m.1) end-seat ∙ slots-are ∙ ap (empty_slots size (length d.posted)) (let f : length d.given + d.reclaimed + size - length d.posted ≡ size = omega arith in f)
+              pub turn-asks : (place : ℕ) → place ≡ length (done_by now).posted % now.table.slots → length (done_by now).reaped + (done_by now).reclaimed ≡ length (done_by now).posted → me1.1 ≡ empty_slots size place size
+              turn-asks place at back = let b : length d.reaped + d.reclaimed ≡ length d.posted = sym (words-are (λ x n. length x.reaped + x.reclaimed)) ∙ back ∙ words-are (λ x n. length x.posted) in
+                  ap (λ (m : SeatOf D C). m.1) end-seat ∙ slots-are ∙ ap (empty_slots size (length d.posted)) (let f : length d.reaped + d.reclaimed + size - length d.posted ≡ size = omega arith in f)
                   ∙ slots-alike size (length d.posted) place size (let g = big in let f = filled place at in sym (ap (λ (j : ℕ). j % size) f ∙ mod-mod (length d.posted) size))
 
               module _ (table' : TableId) (me2 : SeatOf D C) (t : table' ≡ table) (same : me2.0 ≡ me1.0) (slots : me2.1 ≡ empty_slots size 0 size) where
@@ -331,10 +331,10 @@ module _ {Ring Posted Served Given D C : Type 0} (form : Form Ring Posted Served
 
                 pub end_own-keeps : IsDriverSeat form table' me2 size mode
                 end_own-keeps = let b = big in let m = end-may in let g = m.gone in let d' = drive form d (event size es word 0 blank) in
-                    let none : length d'.posted ≡ 0 = ap length g.posted in let back : length d'.given + d'.reclaimed ≡ 0 = (let x : length d'.given ≡ 0 = ap length g.given in let y = g.reclaimed in omega arith) in
+                    let none : length d'.posted ≡ 0 = ap length g.posted in let back : length d'.reaped + d'.reclaimed ≡ 0 = (let x : length d'.reaped ≡ 0 = ap length g.reaped in let y = g.reclaimed in omega arith) in
                     made table' me2 (es ++ event size es word 0 blank ∷ []) (empty_slots size 0 size) (drive form d (event size es word 0 blank)) t renewed-seat (did es (event size es word 0 blank))
-                    (ap (empty_slots size 0) (let f : size ≡ length d'.given + d'.reclaimed + size - length d'.posted = omega arith in f)
-                    ∙ ap (λ (j : ℕ). empty_slots size j (length d'.given + d'.reclaimed + size - length d'.posted)) (sym none)) (record { back = omega arith; room = omega arith })
+                    (ap (empty_slots size 0) (let f : size ≡ length d'.reaped + d'.reclaimed + size - length d'.posted = omega arith in f)
+                    ∙ ap (λ (j : ℕ). empty_slots size j (length d'.reaped + d'.reclaimed + size - length d'.posted)) (sym none)) (record { back = omega arith; room = omega arith })
 
                 pub end_own-steps : side table' me2 ≡ grown now (event now.table.slots now.events word 0 blank)
                 end_own-steps = one-more (event size es word 0 blank) table' me2 (empty_slots size 0 size) t renewed-seat ∙ ap (grown now) (back-there (λ n m xs. event size es word 0 blank ≡ event n xs word 0 blank) refl)

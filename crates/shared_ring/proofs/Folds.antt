@@ -9,13 +9,13 @@ use Rattle.shared_ring.specs.declared.events.ControllerEvent.{ControllerEvent}
 use Rattle.shared_ring.specs.Slots.{empty_slots}
 use Rattle.shared_ring.specs.Records.{Driven, drive, driving_from, know, knowing_from, Controlled, control, controlling_from}
 
-module _ {Posted Given Own : Type 0} (posting : ℕ → Buffer → Posted) (own : Driven Posted Given → Own → Driven Posted Given) where
-  pub driving-snoc : (d : Driven Posted Given) (es : List (DriverEvent Own)) (e : DriverEvent Own) → driving_from posting own d (es ++ e ∷ []) ≡ drive posting own (driving_from posting own d es) e
+module _ {Posted Reaped Own : Type 0} (posting : ℕ → Buffer → Posted) (own : Driven Posted Reaped → Own → Driven Posted Reaped) where
+  pub driving-snoc : (d : Driven Posted Reaped) (es : List (DriverEvent Own)) (e : DriverEvent Own) → driving_from posting own d (es ++ e ∷ []) ≡ drive posting own (driving_from posting own d es) e
   driving-snoc d [] e = refl
   driving-snoc d (x ∷ es) e = driving-snoc (drive posting own d x) es e
 
-module _ {Posted Given Own Known : Type 0} (posting : ℕ → Buffer → Posted) (own : Driven Posted Given → Own → Driven Posted Given) (saw_head : Known → ℕ → Known) (know_own : Driven Posted Given → Known → Own → Known) where
-  pub knowing-snoc : (d : Driven Posted Given) (k : Known) (es : List (DriverEvent Own)) (e : DriverEvent Own)
+module _ {Posted Reaped Own Known : Type 0} (posting : ℕ → Buffer → Posted) (own : Driven Posted Reaped → Own → Driven Posted Reaped) (saw_head : Known → ℕ → Known) (know_own : Driven Posted Reaped → Known → Own → Known) where
+  pub knowing-snoc : (d : Driven Posted Reaped) (k : Known) (es : List (DriverEvent Own)) (e : DriverEvent Own)
       → knowing_from posting own saw_head know_own d k (es ++ e ∷ []) ≡ know posting own saw_head know_own (driving_from posting own d es) (knowing_from posting own saw_head know_own d k es) e
   knowing-snoc d k [] e = refl
   knowing-snoc d k (x ∷ es) e = knowing-snoc (drive posting own d x) (know posting own saw_head know_own d k x) es e
@@ -24,8 +24,8 @@ module _ {Posted Given Own Known : Type 0} (posting : ℕ → Buffer → Posted)
 pub longer : {X : Type 0} (xs ys : List X) (y : X) (zs : List X) → xs ++ (y ∷ ys) ≡ zs → zs ≡ xs → ⊥
 longer xs ys y zs e f = let a : length (xs ++ (y ∷ ys)) ≡ length xs = ap length (e ∙ f) in let b = length-append xs (y ∷ ys) in omega arith
 
-module _ {Served Own : Type 0} (n : ℕ) (own : Controlled Served → Own → Controlled Served) where
-  pub controlling-snoc : (c : Controlled Served) (es : List (ControllerEvent Own)) (e : ControllerEvent Own) → controlling_from n own c (es ++ e ∷ []) ≡ control n own (controlling_from n own c es) e
+module _ {Completed Own : Type 0} (n : ℕ) (own : Controlled Completed → Own → Controlled Completed) where
+  pub controlling-snoc : (c : Controlled Completed) (es : List (ControllerEvent Own)) (e : ControllerEvent Own) → controlling_from n own c (es ++ e ∷ []) ≡ control n own (controlling_from n own c es) e
   controlling-snoc c [] e = refl
   controlling-snoc c (x ∷ es) e = controlling-snoc (control n own c x) es e
 

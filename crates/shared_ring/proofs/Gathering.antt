@@ -45,7 +45,7 @@ empty-homes zero j h = absurd (omega arith)
 empty-homes (suc n) zero h = refl
 empty-homes (suc n) (suc j) h = empty-homes n j (omega arith)
 
-module _ {Ring D C : Type 0} (Lies : Ring → List D → List C → List ℕ → List (maybe.Option Buffer) → Type 0) (n m : ℕ) where
+module _ {Ring D C : Type 0} (IsLaidOut : Ring → List D → List C → List ℕ → List (maybe.Option Buffer) → Type 0) (n m : ℕ) where
   first_seat : (id : ℕ) → get_elem? (Maker ∷ []) id ≡ some (let v : View D C = Maker in v) → id ≡ 0
   first_seat zero e = refl
   first_seat (suc id) e = absurd (some-ne-none Maker (sym e))
@@ -65,8 +65,8 @@ module _ {Ring D C : Type 0} (Lies : Ring → List D → List C → List ℕ →
   })
 
   -- the load by which the first seat takes all slots
-  pub allow_deal : (id i : ℕ) (opening : Ring) → 1 < n → ((words : List ℕ) (homes : List (maybe.Option Buffer)) → words ≡ replicate m 0 → length homes ≡ n → Lies opening [] [] words homes)
-      → Allows (IsRuledBy Lies n m) n id (Maker, []) i (λ x. x) (Deals (step n i 0 0 none) (Maker, []))
+  pub allow_deal : (id i : ℕ) (opening : Ring) → 1 < n → ((words : List ℕ) (homes : List (maybe.Option Buffer)) → words ≡ replicate m 0 → length homes ≡ n → IsLaidOut opening [] [] words homes)
+      → Allows (IsRuledBy IsLaidOut n m) n id (Maker, []) i (λ x. x) (Deals (step n i 0 0 none) (Maker, []))
   allow_deal id i opening pos opens s ruled count at small = ⊎_elim
       (λ b. (
         Both [] [],
@@ -78,7 +78,7 @@ module _ {Ring D C : Type 0} (Lies : Ring → List D → List C → List ℕ →
             ring = opening;
             ds = [];
             cs = [];
-            lies = opens (slice_set s.words i (slice_index s.words i)) (homes_after s.homes [] (take_all n)) (set-same s.words i ∙ b.words) (count-all n [] s.homes ∙ count);
+            laid_out = opens (slice_set s.words i (slice_index s.words i)) (homes_after s.homes [] (take_all n)) (set-same s.words i ∙ b.words) (count-all n [] s.homes ∙ count);
             seats = opening-seats s.views id b.views at;
           }),
         ),

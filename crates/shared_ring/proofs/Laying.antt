@@ -79,8 +79,8 @@ pub home-full : (homes : List (maybe.Option Buffer)) (p : ℕ) (b : Buffer) → 
 home-full homes p b e = full_home (get_elem? homes p) b e
 
 -- a slot that comes home with a buffer, and one that goes out
-pub home-given : (homes : List (maybe.Option Buffer)) (n p : ℕ) (b : Buffer) → p < length homes → Writes n (home_at homes) (home_at (set homes p (some b))) p (Some b)
-home-given homes n p b h = record {
+pub home-reaped : (homes : List (maybe.Option Buffer)) (n p : ℕ) (b : Buffer) → p < length homes → Writes n (home_at homes) (home_at (set homes p (some b))) p (Some b)
+home-reaped homes n p b h = record {
   here = ap at_home (set_here homes p (some b) h);
   rest = λ j below ne. ap at_home (set_else homes p j (some b) ne);
 }

@@ -1,7 +1,7 @@
 pub mod Seating
 pub mod Laying
 pub mod Items
-pub mod Lying
+pub mod Placing
 pub mod Controlling
 pub mod Folds
 pub mod Lasting

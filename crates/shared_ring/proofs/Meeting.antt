@@ -17,11 +17,11 @@ use Rattle.shared_ring.specs.declared.events.ControllerEvent.{ControllerEvent}
 use Rattle.shared_ring.specs.declared.events.View.{View}
 use Rattle.shared_ring.specs.declared.events.View.TheVariants.{Maker, Driver, Controller, Both, Nobody}
 use Rattle.shared_ring.specs.Directions.{IsDirection}
-use Rattle.shared_ring.specs.Ends.{DriverSide, driver_size, driver_state, ControllerSide, controller_record, served as served_by}
+use Rattle.shared_ring.specs.Ends.{DriverSide, driver_size, driver_state, ControllerSide, controller_record, completed as completed_by}
 use Rattle.shared_ring.specs.Forms.{Form, driving, controlling}
 use Rattle.shared_ring.specs.Keeping.{IsRuled}
-use Rattle.shared_ring.specs.Lies.{driven, IsControlled}
-use Rattle.shared_ring.specs.Meeting.{kept_upto, is_unanswered, served_now}
+use Rattle.shared_ring.specs.LaidOut.{driven, IsControlled}
+use Rattle.shared_ring.specs.Meeting.{kept_upto, is_unanswered, completed_now}
 use Rattle.shared_ring.specs.Plays.{SeatOf, Deals, Meets}
 use Rattle.shared_ring.specs.Records.{Driven, Controlled}
 use Rattle.shared_ring.specs.Seats.{driver_half, controller_half, both_halves}
@@ -53,29 +53,29 @@ kept-get f (suc k) p h = ⊎_elim
 pub some-words : (ring : TableId) (key : ℕ × Completion) → IsTableOf ring key.0 key.1 → 0 < ring.words
 some-words ring key t = let w = t.words in let b = words-big key.0 key.1 in omega arith
 
-module _ {Ring Posted Served Given D C : Type 0} (form : Form Ring Posted Served Given D C) (law : IsDirection form) where
+module _ {Ring Posted Completed Reaped D C : Type 0} (form : Form Ring Posted Completed Reaped D C) (law : IsDirection form) where
   abbrev V : Type 0
   V = View (DriverEvent D) (ControllerEvent C)
 
   pub lend-asks : (key : ℕ × Completion) (id : ℕ) (v : V) (cs : List (ControllerEvent C)) → v ≡ Controller cs → Splits {S = Buffer} (IsRuled form key.0 key.1) id v Nobody v
-  lend-asks key id v cs e = subst (λ (w : V). Splits {S = Buffer} (IsRuled form key.0 key.1) id w Nobody w) (sym e) (splits-lend (form.Lies key.0 key.1) key.0 (words_of key.0 key.1) id cs)
+  lend-asks key id v cs e = subst (λ (w : V). Splits {S = Buffer} (IsRuled form key.0 key.1) id w Nobody w) (sym e) (splits-lend (form.IsLaidOut key.0 key.1) key.0 (words_of key.0 key.1) id cs)
 
   pub unite-asks : (key : ℕ × Completion) (id other : ℕ) (v w : V) (ds : List (DriverEvent D)) (cs : List (ControllerEvent C)) → v ≡ Driver ds → w ≡ Controller cs → Joins {S = Buffer} (IsRuled form key.0 key.1) id v other w (both_halves v w) Nobody
   unite-asks key id other v w ds cs e f =
       subst (λ (x : V). Joins {S = Buffer} (IsRuled form key.0 key.1) id x other w (both_halves x w) Nobody) (sym e)
-      (subst (λ (y : V). Joins {S = Buffer} (IsRuled form key.0 key.1) id (Driver ds) other y (both_halves (Driver ds) y) Nobody) (sym f) (joins-unite (form.Lies key.0 key.1) key.0 (words_of key.0 key.1) id other ds cs))
+      (subst (λ (y : V). Joins {S = Buffer} (IsRuled form key.0 key.1) id (Driver ds) other y (both_halves (Driver ds) y) Nobody) (sym f) (joins-unite (form.IsLaidOut key.0 key.1) key.0 (words_of key.0 key.1) id other ds cs))
 
   pub halve-asks : (key : ℕ × Completion) (id : ℕ) (v : V) (ds : List (DriverEvent D)) (cs : List (ControllerEvent C)) → v ≡ Both ds cs → Splits {S = Buffer} (IsRuled form key.0 key.1) id v (driver_half v) (controller_half v)
-  halve-asks key id v ds cs e = subst (λ (w : V). Splits {S = Buffer} (IsRuled form key.0 key.1) id w (driver_half w) (controller_half w)) (sym e) (splits-halve (form.Lies key.0 key.1) key.0 (words_of key.0 key.1) id ds cs)
+  halve-asks key id v ds cs e = subst (λ (w : V). Splits {S = Buffer} (IsRuled form key.0 key.1) id w (driver_half w) (controller_half w)) (sym e) (splits-halve (form.IsLaidOut key.0 key.1) key.0 (words_of key.0 key.1) id ds cs)
 
   pub return-asks : (key : ℕ × Completion) (id other : ℕ) (v w : V) (cs : List (ControllerEvent C)) → v ≡ Nobody → w ≡ Controller cs → Joins {S = Buffer} (IsRuled form key.0 key.1) id v other w w Nobody
   return-asks key id other v w cs e f =
       subst (λ (x : V). Joins {S = Buffer} (IsRuled form key.0 key.1) id x other w w Nobody) (sym e)
-      (subst (λ (y : V). Joins {S = Buffer} (IsRuled form key.0 key.1) id Nobody other y y Nobody) (sym f) (joins-return (form.Lies key.0 key.1) key.0 (words_of key.0 key.1) id other cs))
+      (subst (λ (y : V). Joins {S = Buffer} (IsRuled form key.0 key.1) id Nobody other y y Nobody) (sym f) (joins-return (form.IsLaidOut key.0 key.1) key.0 (words_of key.0 key.1) id other cs))
 
   -- both ends meet
   allow-meet : (n : ℕ) (mode : Completion) (id : ℕ) (ds : List (DriverEvent D)) (cs : List (ControllerEvent C)) (slots : List (ℕ × Buffer)) → Allows (IsRuled form n mode) n id (Both ds cs, slots) 0 (λ x. x) (Meets form (step n 0 0 0 none) (Both ds cs, slots))
-  allow-meet n mode id ds cs slots = allow_both (form.Lies n mode) n (words_of n mode) id ds cs slots 0 (Meets form (step n 0 0 0 none) (Both ds cs, slots))
+  allow-meet n mode id ds cs slots = allow_both (form.IsLaidOut n mode) n (words_of n mode) id ds cs slots 0 (Meets form (step n 0 0 0 none) (Both ds cs, slots))
       (λ q words homes pos l. let a = law.allowed n mode q ds cs words homes pos l in record { same = refl; of_one_ring = a.agree })
 
   pub meet-asks : (key : ℕ × Completion) (slots id : ℕ) (me : SeatOf D C) (ds : List (DriverEvent D)) (cs : List (ControllerEvent C)) (carried : List (ℕ × Buffer)) → slots ≡ key.0 → me ≡ (Both ds cs, carried) → Allows (IsRuled form key.0 key.1) slots id me 0 (λ x. x) (Meets form (step slots 0 0 0 none) me)
@@ -88,14 +88,14 @@ module _ {Ring Posted Served Given D C : Type 0} (form : Form Ring Posted Served
       subst (λ (x : ℕ × Completion). Allows (IsRuled form x.0 x.1) slots id me (n + 2) (λ x. x) (Deals (step slots (n + 2) 0 0 none) me)) (sym k)
       (subst (λ (x : ℕ). Allows (IsRuled form n mode) x id me (n + 2) (λ x. x) (Deals (step x (n + 2) 0 0 none) me)) (sym s)
       (subst (λ (m : SeatOf D C). Allows (IsRuled form n mode) n id m (n + 2) (λ x. x) (Deals (step n (n + 2) 0 0 none) m)) (sym e)
-      (let o = law.opens n mode big may in allow_deal (form.Lies n mode) n (words_of n mode) id (n + 2) o.0 big o.1)))
+      (let o = law.opens n mode big may in allow_deal (form.IsLaidOut n mode) n (words_of n mode) id (n + 2) o.0 big o.1)))
 
   -- the last state of a table whose seat has both records
   left-in : (key : ℕ × Completion) (id : ℕ) (ds : List (DriverEvent D)) (cs : List (ControllerEvent C)) (words : List ℕ) (slots : List Buffer) → Final (Seen (IsRuled form key.0 key.1) id (Both ds cs)) words slots → form.LeftIn key.0 ds cs slots
   left-in key id ds cs words slots f =
-      let s = f.0 in let seen = f.1 in let r = running (form.Lies key.0 key.1) key.0 (words_of key.0 key.1) s id (Both ds cs) seen.0 seen.1 (λ e. cc) in
+      let s = f.0 in let seen = f.1 in let r = running (form.IsLaidOut key.0 key.1) key.0 (words_of key.0 key.1) s id (Both ds cs) seen.0 seen.1 (λ e. cc) in
       let both = both_are r.ds ds r.cs cs s.views id r.seats seen.1 in let ruled = seen.0 in
-      let l = subst (λ (xs : List (DriverEvent D)). form.Lies key.0 key.1 r.ring xs cs s.words s.homes) (sym both.0) (subst (λ (ys : List (ControllerEvent C)). form.Lies key.0 key.1 r.ring r.ds ys s.words s.homes) (sym both.1) r.lies) in
+      let l = subst (λ (xs : List (DriverEvent D)). form.IsLaidOut key.0 key.1 r.ring xs cs s.words s.homes) (sym both.0) (subst (λ (ys : List (ControllerEvent C)). form.IsLaidOut key.0 key.1 r.ring r.ds ys s.words s.homes) (sym both.1) r.laid_out) in
       let a = law.allowed key.0 key.1 r.ring ds cs s.words s.homes ruled.0 l in a.left slots f.4
 
   -- the same, of a seat whose view is that, and of the rule at an equal key
@@ -112,18 +112,18 @@ ended_idle Ended e = refl
 ended_idle _ e = absurd (false≢true e)
 
 -- what is served in the driver's epoch is what the ring has served
-module _ {Ring Posted Served Given D C : Type 0} {form : Form Ring Posted Served Given D C} (says : ℕ → Option Posted → Option Served → ℕ) (lies : Option Posted → Option Served → Option Buffer) (ends : Served → Bool) (n : ℕ)
-    (q : Queue Posted Served Given) (kept : IsKept n ends q) (bars : Bool) (d : DriverSide form) (c : ControllerSide form) (same : c.table ≡ d.table) (did : driving form d.events ≡ driven q)
-    (served : IsControlled {Given = Given} says lies q bars (controlling form (driver_size d) c.events)) where
-  its : {Y : Type 0} (f : Controlled Served → Y) → f (controller_record c) ≡ f (controlling form (driver_size d) c.events)
+module _ {Ring Posted Completed Reaped D C : Type 0} {form : Form Ring Posted Completed Reaped D C} (word_of_item : ℕ → Option Posted → Option Completed → ℕ) (buffer_of_item : Option Posted → Option Completed → Option Buffer) (ends : Completed → Bool) (n : ℕ)
+    (q : Queue Posted Completed Reaped) (kept : IsKept n ends q) (bars : Bool) (d : DriverSide form) (c : ControllerSide form) (same : c.table ≡ d.table) (did : driving form d.events ≡ driven q)
+    (completed : IsControlled {Reaped = Reaped} word_of_item buffer_of_item q bars (controlling form (driver_size d) c.events)) where
+  its : {Y : Type 0} (f : Controlled Completed → Y) → f (controller_record c) ≡ f (controlling form (driver_size d) c.events)
   its f = ap (λ (z : TableId). f (controlling form z.slots c.events)) same
 
   unanswered-is : is_unanswered d c ≡ is_between q.handshake
-  unanswered-is = ap (λ (x : Bool). x && is_open (driver_state d)) (its (λ x. is_ended x.state) ∙ ap is_ended served.state) ∙ ap (λ (x : Driven Posted Given). is_ended q.handshake.controller && is_open x.state) did
+  unanswered-is = ap (λ (x : Bool). x && is_open (driver_state d)) (its (λ x. is_ended x.state) ∙ ap is_ended completed.state) ∙ ap (λ (x : Driven Posted Reaped). is_ended q.handshake.controller && is_open x.state) did
 
-  chosen : (b : Bool) → is_between q.handshake ≡ b → (if b then [] else served_by c) ≡ q.ledger.served
-  chosen true e = let o = kept.order in let t = and_parts (is_ended q.handshake.controller) (is_open q.handshake.driver) e in sym (none-empty q.ledger.served (o.none_served (ended_idle q.handshake.controller t.0) t.1))
-  chosen false e = its (λ x. x.served) ∙ served.served e
+  chosen : (b : Bool) → is_between q.handshake ≡ b → (if b then [] else completed_by c) ≡ q.ledger.completed
+  chosen true e = let o = kept.order in let t = and_parts (is_ended q.handshake.controller) (is_open q.handshake.driver) e in sym (none-empty q.ledger.completed (o.none_completed (ended_idle q.handshake.controller t.0) t.1))
+  chosen false e = its (λ x. x.completed) ∙ completed.completed e
 
-  pub served-is : served_now d c ≡ q.ledger.served
-  served-is = ap (λ (b : Bool). if b then [] else served_by c) unanswered-is ∙ chosen (is_between q.handshake) refl
+  pub completed-is : completed_now d c ≡ q.ledger.completed
+  completed-is = ap (λ (b : Bool). if b then [] else completed_by c) unanswered-is ∙ chosen (is_between q.handshake) refl

@@ -27,7 +27,7 @@ use Rattle.shared_ring.proofs.Folds.{driving-snoc, knowing-snoc}
 abbrev pub anew : ℕ → DriverPlaces
 anew n = record { size = n; fill = 0; next = 0; out = 0; state = New }
 
-pub poster-anew : {Posted Given : Type 0} (n published : ℕ) → IsRingLength n → IsPoster {Posted = Posted} {Given = Given} n (record { posted = []; published = published; given = []; reclaimed = 0; state = New }) (anew n)
+pub poster-anew : {Posted Reaped : Type 0} (n published : ℕ) → IsRingLength n → IsPoster {Posted = Posted} {Reaped = Reaped} n (record { posted = []; published = published; reaped = []; reclaimed = 0; state = New }) (anew n)
 poster-anew n published lawful = let g : 8 ≤ n = lawful.0 in record {
   lawful = lawful;
   size_is = refl;
@@ -39,7 +39,7 @@ poster-anew n published lawful = let g : 8 ≤ n = lawful.0 in record {
   unreclaimed = λ a. refl;
 }
 
-module _ {Posted Given : Type 0} (n : ℕ) (x : Driven Posted Given) (at : DriverPlaces) (h : IsPoster n x at) where
+module _ {Posted Reaped : Type 0} (n : ℕ) (x : Driven Posted Reaped) (at : DriverPlaces) (h : IsPoster n x at) where
   big : 8 ≤ n
   big = h.lawful.0
 
@@ -50,7 +50,7 @@ module _ {Posted Given : Type 0} (n : ℕ) (x : Driven Posted Given) (at : Drive
   pub poster-published : (published : ℕ) → IsPoster n (record x { published = published }) at
   poster-published published = record { lawful = h.lawful; size_is = h.size_is; fill_is = h.fill_is; next_is = h.next_is; out_is = h.out_is; room = h.room; state_is = h.state_is; unreclaimed = h.unreclaimed }
 
-  pub poster-post : (p : Posted) (fill : ℕ) → length x.posted + 1 < length x.given + x.reclaimed + n → fill ≡ (if (at.fill + 1) == n then 0 else (at.fill + 1)) → IsPoster n (record x { posted = x.posted ++ p ∷ [] }) (record at { fill = fill; out = at.out + 1 })
+  pub poster-post : (p : Posted) (fill : ℕ) → length x.posted + 1 < length x.reaped + x.reclaimed + n → fill ≡ (if (at.fill + 1) == n then 0 else (at.fill + 1)) → IsPoster n (record x { posted = x.posted ++ p ∷ [] }) (record at { fill = fill; out = at.out + 1 })
   poster-post p fill room f = let e = length-append x.posted (p ∷ []) in let o = h.out_is in let g = big in record {
     lawful = h.lawful;
     size_is = h.size_is;
@@ -63,13 +63,13 @@ module _ {Posted Given : Type 0} (n : ℕ) (x : Driven Posted Given) (at : Drive
   }
 
   -- one more came back
-  pub poster-back : (y : Driven Posted Given) (next : ℕ) → y.posted ≡ x.posted → y.state ≡ x.state → length y.given + y.reclaimed ≡ length x.given + x.reclaimed + 1 → (is_answered x.state ≡ false → y.reclaimed ≡ 0) → 0 < at.out → next ≡ (if (at.next + 1) == n then 0 else (at.next + 1))
+  pub poster-back : (y : Driven Posted Reaped) (next : ℕ) → y.posted ≡ x.posted → y.state ≡ x.state → length y.reaped + y.reclaimed ≡ length x.reaped + x.reclaimed + 1 → (is_answered x.state ≡ false → y.reclaimed ≡ 0) → 0 < at.out → next ≡ (if (at.next + 1) == n then 0 else (at.next + 1))
       → IsPoster n y (record at { next = next; out = at.out - 1 })
   poster-back y next posted state back un some f = let o = h.out_is in let g = big in let r = h.room in let p : length y.posted ≡ length x.posted = ap length posted in record {
     lawful = h.lawful;
     size_is = h.size_is;
     fill_is = h.fill_is ∙ ap (λ (j : ℕ). j % n) (sym p);
-    next_is = f ∙ ap (λ (j : ℕ). if (j + 1) == n then 0 else (j + 1)) h.next_is ∙ next_place n (length x.given + x.reclaimed) (omega arith) ∙ ap (λ (j : ℕ). j % n) (sym back);
+    next_is = f ∙ ap (λ (j : ℕ). if (j + 1) == n then 0 else (j + 1)) h.next_is ∙ next_place n (length x.reaped + x.reclaimed) (omega arith) ∙ ap (λ (j : ℕ). j % n) (sym back);
     out_is = omega arith;
     room = omega arith;
     state_is = h.state_is ∙ sym state;
@@ -83,7 +83,7 @@ module _ {Posted Given : Type 0} (n : ℕ) (x : Driven Posted Given) (at : Drive
   poster-shaken AskDisable w may = poster-state (shaken AskDisable x.state w) x.published (λ a. open_unanswered x.state (on_open x.state may))
 
 -- How the record of an end, and what it has learnt, are read after a step
-module _ {Ring Posted Served Given D C : Type 0} {form : Form Ring Posted Served Given D C} where
+module _ {Ring Posted Completed Reaped D C : Type 0} {form : Form Ring Posted Completed Reaped D C} where
   pub record-after : (d new : DriverSide form) (e : DriverEvent D) → new ≡ driver_grown d e → driver_record new ≡ drive form (driver_record d) e
   record-after d new e step = ap driver_record step ∙ driving-snoc form.posting form.drive_own undriven d.events e
 
@@ -105,6 +105,6 @@ module _ {Ring Posted Served Given D C : Type 0} {form : Form Ring Posted Served
   module _ (d : DriverSide form) (at : DriverPlaces) (h : IsPoster (driver_size d) (driver_record d) at) where
     pub came-keeps : (new : DriverSide form) (buf : Buffer) (next : ℕ) → is_stopped (driver_state d) ≡ true → ¬ (at.out ≡ 0) → CameBack d at.next buf new → next ≡ place_next at.size at.next → IsPoster (driver_size new) (driver_record new) (record at { next = next; out = at.out - 1 })
     came-keeps new buf next stopped ne f e = subst (λ (n : ℕ). IsPoster n (driver_record new) (record at { next = next; out = at.out - 1 })) (sym (ap driver_size f.step))
-        (subst (λ (x : Driven Posted Given). IsPoster (driver_size d) x (record at { next = next; out = at.out - 1 })) (sym (record-after d new (driver.Reclaimed at.next buf) f.step))
+        (subst (λ (x : Driven Posted Reaped). IsPoster (driver_size d) x (record at { next = next; out = at.out - 1 })) (sym (record-after d new (driver.Reclaimed at.next buf) f.step))
         (poster-back (driver_size d) (driver_record d) at h (record (driver_record d) { reclaimed = (driver_record d).reclaimed + 1 }) next refl refl (omega arith) (λ a. absurd (both_ways (is_answered (driver_state d)) a (stopped_answered (driver_state d) stopped))) (omega arith)
         (e ∙ ap (λ (n : ℕ). if (at.next + 1) == n then 0 else (at.next + 1)) h.size_is)))

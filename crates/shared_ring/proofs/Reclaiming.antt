@@ -8,8 +8,8 @@ use Rattle.shared_ring.specs.Forms.{Form, driving}
 use Rattle.shared_ring.specs.Own.{MayClear}
 use Rattle.shared_ring.specs.Reclaims.{reclaiming, Reclaims}
 
-module _ {Ring Posted Served Given D C : Type 0} (form : Form Ring Posted Served Given D C) (law : IsDirection form) (n : ℕ) (mode : Completion) (es : List (DriverEvent D)) where
-  pub may-reclaim : (place : ℕ) → place ≡ (length (driving form es).given + (driving form es).reclaimed) % n → is_stopped (driving form es).state ≡ true → length (driving form es).given + (driving form es).reclaimed < length (driving form es).posted
+module _ {Ring Posted Completed Reaped D C : Type 0} (form : Form Ring Posted Completed Reaped D C) (law : IsDirection form) (n : ℕ) (mode : Completion) (es : List (DriverEvent D)) where
+  pub may-reclaim : (place : ℕ) → place ≡ (length (driving form es).reaped + (driving form es).reclaimed) % n → is_stopped (driving form es).state ≡ true → length (driving form es).reaped + (driving form es).reclaimed < length (driving form es).posted
       → MayClear form reclaiming (Reclaims form) n mode es place
   may-reclaim place at stopped out = record {
     goes = λ q cs words homes pos l. let a = law.allowed n mode q es cs words homes pos l in let f = a.driver in let t = f.reclaim place at stopped out in record {

@@ -18,7 +18,7 @@ use Rattle.shared_ring.specs.declared.ends.ControllerLoad.TheVariants.{Tail, Req
 use Rattle.shared_ring.specs.declared.events.ControllerEvent.{ControllerEvent}
 use Rattle.shared_ring.specs.declared.events.ControllerEvent.TheVariants as controller
 use Rattle.shared_ring.specs.Calls.{IsServer, FoundAhead, LoadedRequested, LoadedWord, MayEnable, MayDisable, MayAnswer, IsSettled, Answered}
-use Rattle.shared_ring.specs.Ends.{ControllerSide, controller_size, controller_record, controller_state, served, held, serve_place, controller_grown}
+use Rattle.shared_ring.specs.Ends.{ControllerSide, controller_size, controller_record, controller_state, completed, held, serve_place, controller_grown}
 use Rattle.shared_ring.specs.Forms.{Form, control}
 use Rattle.shared_ring.specs.Records.{Controlled, uncontrolled, count_at, ends_whole}
 use Rattle.shared_ring.specs.Slots.{is_there}
@@ -30,7 +30,7 @@ use Rattle.shared_ring.proofs.Folds.{controlling-snoc}
 abbrev pub unplaced : ℕ → ControllerPlaces
 unplaced n = record { size = n; serve = 0; ahead = 0; holding = false; between = true; state = Off; seen = Disabled }
 
-pub server-fresh : {Served : Type 0} (carries : Served → Piece) (n : ℕ) → IsRingLength n → IsServer carries n uncontrolled (unplaced n)
+pub server-fresh : {Completed : Type 0} (carries : Completed → Piece) (n : ℕ) → IsRingLength n → IsServer carries n uncontrolled (unplaced n)
 server-fresh carries n lawful = let g : 8 ≤ n = lawful.0 in record {
   lawful = lawful;
   size_is = refl;
@@ -45,21 +45,21 @@ server-fresh carries n lawful = let g : 8 ≤ n = lawful.0 in record {
   seen_is = refl;
 }
 
-module _ {Served : Type 0} (carries : Served → Piece) where
-  ends-snoc : (whole : Bool) (xs : List Served) (s : Served) → ends_frame (λ (s : Served). (carries s).eop) whole (xs ++ s ∷ []) ≡ (carries s).eop
+module _ {Completed : Type 0} (carries : Completed → Piece) where
+  ends-snoc : (whole : Bool) (xs : List Completed) (s : Completed) → ends_frame (λ (s : Completed). (carries s).eop) whole (xs ++ s ∷ []) ≡ (carries s).eop
   ends-snoc whole [] s = refl
   ends-snoc whole (x ∷ xs) s = ends-snoc (carries x).eop xs s
 
   -- whether the last ends a frame, where there is one more
-  pub whole-snoc : (xs : List Served) (s : Served) → ends_whole carries (xs ++ s ∷ []) ≡ (carries s).eop
+  pub whole-snoc : (xs : List Completed) (s : Completed) → ends_whole carries (xs ++ s ∷ []) ≡ (carries s).eop
   whole-snoc xs s = ends-snoc true xs s
 
-  rest-none : (whole : Bool) (rest xs : List Served) → (whole ≡ true → rest ≡ []) → ends_frame (λ (s : Served). (carries s).eop) whole xs ≡ true → unfinished_from carries rest xs ≡ []
+  rest-none : (whole : Bool) (rest xs : List Completed) → (whole ≡ true → rest ≡ []) → ends_frame (λ (s : Completed). (carries s).eop) whole xs ≡ true → unfinished_from carries rest xs ≡ []
   rest-none whole rest [] h e = h e
   rest-none whole rest (x ∷ xs) h e = rest-none (carries x).eop (if (carries x).eop then [] else rest ++ x ∷ []) xs (λ f. ap (λ (b : Bool). if b then [] else rest ++ x ∷ []) f) e
 
   -- between two frames nothing is unfinished
-  pub between-rest : (xs : List Served) → ends_whole carries xs ≡ true → unfinished carries xs ≡ []
+  pub between-rest : (xs : List Completed) → ends_whole carries xs ≡ true → unfinished carries xs ≡ []
   between-rest xs e = rest-none true [] xs (λ f. refl) e
 
 pub there-none : (o : Option Buffer) → o ≡ None → is_there o ≡ false
@@ -69,18 +69,18 @@ pub none-there : (o : Option Buffer) → is_there o ≡ false → o ≡ None
 none-there None e = refl
 none-there (Some b) e = absurd (true≢false e)
 
-module _ {Served : Type 0} (carries : Served → Piece) (n : ℕ) (x : Controlled Served) (at : ControllerPlaces) (h : IsServer carries n x at) where
+module _ {Completed : Type 0} (carries : Completed → Piece) (n : ℕ) (x : Controlled Completed) (at : ControllerPlaces) (h : IsServer carries n x at) where
   big : 8 ≤ n
   big = h.lawful.0
 
   pub serve-below : at.serve < n
-  serve-below = let b = big in let e = h.serve_is in let m : length x.served % n < n = mod-lt (length x.served) (omega arith) in omega arith
+  serve-below = let b = big in let e = h.serve_is in let m : length x.completed % n < n = mod-lt (length x.completed) (omega arith) in omega arith
 
-  pub next-is : (serve : ℕ) → serve ≡ (if (at.serve + 1) == n then 0 else (at.serve + 1)) → serve ≡ (length x.served + 1) % n
-  next-is serve e = let b = big in e ∙ ap (λ (j : ℕ). if (j + 1) == n then 0 else (j + 1)) h.serve_is ∙ next_place n (length x.served) (omega arith)
+  pub next-is : (serve : ℕ) → serve ≡ (if (at.serve + 1) == n then 0 else (at.serve + 1)) → serve ≡ (length x.completed + 1) % n
+  next-is serve e = let b = big in e ∙ ap (λ (j : ℕ). if (j + 1) == n then 0 else (j + 1)) h.serve_is ∙ next_place n (length x.completed) (omega arith)
 
   -- a step that leaves all of this
-  pub server-same : (y : Controlled Served) → y.served ≡ x.served → y.known ≡ x.known → y.held ≡ x.held → y.state ≡ x.state → y.seen ≡ x.seen → IsServer carries n y at
+  pub server-same : (y : Controlled Completed) → y.completed ≡ x.completed → y.known ≡ x.known → y.held ≡ x.held → y.state ≡ x.state → y.seen ≡ x.seen → IsServer carries n y at
   server-same y a b c d e = record {
     lawful = h.lawful;
     size_is = h.size_is;
@@ -96,12 +96,12 @@ module _ {Served : Type 0} (carries : Served → Piece) (n : ℕ) (x : Controlle
   }
 
   -- A3, B3: how far a loaded tail is ahead
-  module _ (tail ahead : ℕ) (is : ahead ≡ between_places at.size at.serve tail) (grows : x.known ≤ count_at n (length x.served) tail) where
-    pub counted : ahead ≡ (tail + n - length x.served % n) % n
+  module _ (tail ahead : ℕ) (is : ahead ≡ between_places at.size at.serve tail) (grows : x.known ≤ count_at n (length x.completed) tail) where
+    pub counted : ahead ≡ (tail + n - length x.completed % n) % n
     counted = is ∙ ap (λ (m : ℕ). (tail + m - at.serve) % m) h.size_is ∙ ap (λ (j : ℕ). (tail + n - j) % n) h.serve_is
 
-    pub server-look : IsServer carries n (record x { known = count_at n (length x.served) tail }) (record at { ahead = ahead })
-    server-look = let b = big in let i = counted in let g = grows in let j = h.ahead_is in let k : length x.served + ahead ≡ count_at n (length x.served) tail = ap (λ (j : ℕ). length x.served + j) counted in let m : (tail + n - length x.served % n) % n < n = mod-lt (tail + n - length x.served % n) (omega arith) in record {
+    pub server-look : IsServer carries n (record x { known = count_at n (length x.completed) tail }) (record at { ahead = ahead })
+    server-look = let b = big in let i = counted in let g = grows in let j = h.ahead_is in let k : length x.completed + ahead ≡ count_at n (length x.completed) tail = ap (λ (j : ℕ). length x.completed + j) counted in let m : (tail + n - length x.completed % n) % n < n = mod-lt (tail + n - length x.completed % n) (omega arith) in record {
       lawful = h.lawful;
       size_is = h.size_is;
       serve_is = h.serve_is;
@@ -116,7 +116,7 @@ module _ {Served : Type 0} (carries : Served → Piece) (n : ℕ) (x : Controlle
     }
 
   -- A4, B4
-  pub server-fetch : (b : Buffer) → is_serving x.state ≡ true → 0 < x.known - length x.served → IsServer carries n (record x { held = Some b }) (record at { holding = true })
+  pub server-fetch : (b : Buffer) → is_serving x.state ≡ true → 0 < x.known - length x.completed → IsServer carries n (record x { held = Some b }) (record at { holding = true })
   server-fetch b serving some = let i = h.ahead_is in record {
     lawful = h.lawful;
     size_is = h.size_is;
@@ -132,9 +132,9 @@ module _ {Served : Type 0} (carries : Served → Piece) (n : ℕ) (x : Controlle
   }
 
   -- A5, B5: what was held is served
-  pub server-served : (s : Served) (serve : ℕ) (between : Bool) → at.holding ≡ true → serve ≡ (if (at.serve + 1) == n then 0 else (at.serve + 1)) → between ≡ (carries s).eop → (place : ℕ) (bars : Bool)
-      → IsServer carries n (record x { served = x.served ++ s ∷ []; held = None; head = place; barred = bars }) (record at { serve = serve; ahead = at.ahead - 1; holding = false; between = between })
-  server-served s serve between holds e ends place bars = let len = length-append x.served (s ∷ []) in let sf = h.held_ahead holds in let i = h.ahead_is in let fb = h.ahead_below in record {
+  pub server-completed : (s : Completed) (serve : ℕ) (between : Bool) → at.holding ≡ true → serve ≡ (if (at.serve + 1) == n then 0 else (at.serve + 1)) → between ≡ (carries s).eop → (place : ℕ) (bars : Bool)
+      → IsServer carries n (record x { completed = x.completed ++ s ∷ []; held = None; head = place; barred = bars }) (record at { serve = serve; ahead = at.ahead - 1; holding = false; between = between })
+  server-completed s serve between holds e ends place bars = let len = length-append x.completed (s ∷ []) in let sf = h.held_ahead holds in let i = h.ahead_is in let fb = h.ahead_below in record {
     lawful = h.lawful;
     size_is = h.size_is;
     serve_is = next-is serve e ∙ ap (λ (j : ℕ). j % n) (sym len);
@@ -143,7 +143,7 @@ module _ {Served : Type 0} (carries : Served → Piece) (n : ℕ) (x : Controlle
     held_is = refl;
     held_ahead = λ f. absurd (false≢true f);
     held_serving = λ f. absurd (false≢true f);
-    between_is = ends ∙ sym (whole-snoc carries x.served s);
+    between_is = ends ∙ sym (whole-snoc carries x.completed s);
     state_is = h.state_is;
     seen_is = h.seen_is;
   }
@@ -153,7 +153,7 @@ module _ {Served : Type 0} (carries : Served → Piece) (n : ℕ) (x : Controlle
   server-request v = record { lawful = h.lawful; size_is = h.size_is; serve_is = h.serve_is; ahead_is = h.ahead_is; ahead_below = h.ahead_below; held_is = h.held_is; held_ahead = h.held_ahead; held_serving = h.held_serving; between_is = h.between_is; state_is = h.state_is; seen_is = refl }
 
   -- C3
-  pub server-enable : is_serving at.state ≡ false → IsServer carries n (record x { served = []; known = 0; head = 0; state = Serving; seen = 2; barred = false }) (record at { serve = 0; ahead = 0; between = true; state = Serving; seen = Enabled })
+  pub server-enable : is_serving at.state ≡ false → IsServer carries n (record x { completed = []; known = 0; head = 0; state = Serving; seen = 2; barred = false }) (record at { serve = 0; ahead = 0; between = true; state = Serving; seen = Enabled })
   server-enable idle = let b = big in record {
     lawful = h.lawful;
     size_is = h.size_is;
@@ -184,52 +184,52 @@ module _ {Served : Type 0} (carries : Served → Piece) (n : ℕ) (x : Controlle
   }
 
 -- a step that leaves what is served and held, the head, and whether more may be fetched
-pub record Leaves {Served : Type 0} (x y : Controlled Served) : Type 0 where
-  pub served : y.served ≡ x.served
+pub record Leaves {Completed : Type 0} (x y : Controlled Completed) : Type 0 where
+  pub completed : y.completed ≡ x.completed
   pub held : y.held ≡ x.held
   pub head : y.head ≡ x.head
   pub state : y.state ≡ x.state
   pub barred : y.barred ≡ x.barred
 
 -- What the end's calls answer, over its record
-module _ {Ring Posted Served Given D C : Type 0} {form : Form Ring Posted Served Given D C} where
+module _ {Ring Posted Completed Reaped D C : Type 0} {form : Form Ring Posted Completed Reaped D C} where
   pub record-after : (c new : ControllerSide form) (e : ControllerEvent C) → new ≡ controller_grown c e → controller_record new ≡ control form (controller_size c) (controller_record c) e
   record-after c new e step = ap controller_record step ∙ controlling-snoc (controller_size c) form.control_own uncontrolled c.events e
 
   -- over what its record is then
-  pub served-as : (c new : ControllerSide form) (e : ControllerEvent C) (y : Controlled Served) (at : ControllerPlaces) → new ≡ controller_grown c e → controller_record new ≡ y → IsServer form.carries (controller_size c) y at → IsServer form.carries (controller_size new) (controller_record new) at
-  served-as c new e y at step is h = subst (λ (n : ℕ). IsServer form.carries n (controller_record new) at) (sym (ap controller_size step)) (subst (λ (z : Controlled Served). IsServer form.carries (controller_size c) z at) (sym is) h)
+  pub completed-as : (c new : ControllerSide form) (e : ControllerEvent C) (y : Controlled Completed) (at : ControllerPlaces) → new ≡ controller_grown c e → controller_record new ≡ y → IsServer form.carries (controller_size c) y at → IsServer form.carries (controller_size new) (controller_record new) at
+  completed-as c new e y at step is h = subst (λ (n : ℕ). IsServer form.carries n (controller_record new) at) (sym (ap controller_size step)) (subst (λ (z : Controlled Completed). IsServer form.carries (controller_size c) z at) (sym is) h)
 
   -- A3, B3
   module _ (c new : ControllerSide form) (tail : ℕ) (f : FoundTail c tail new) where
-    record-is : controller_record new ≡ record (controller_record c) { known = count_at (controller_size c) (length (served c)) tail }
+    record-is : controller_record new ≡ record (controller_record c) { known = count_at (controller_size c) (length (completed c)) tail }
     record-is = record-after c new (controller.Looked tail) f.step
 
     pub look-keeps : (at : ControllerPlaces) (ahead : ℕ) → IsServer form.carries (controller_size c) (controller_record c) at → ahead ≡ between_places at.size at.serve tail → IsServer form.carries (controller_size new) (controller_record new) (record at { ahead = ahead })
-    look-keeps at ahead h is = served-as c new (controller.Looked tail) (record (controller_record c) { known = count_at (controller_size c) (length (served c)) tail }) (record at { ahead = ahead }) f.step record-is
+    look-keeps at ahead h is = completed-as c new (controller.Looked tail) (record (controller_record c) { known = count_at (controller_size c) (length (completed c)) tail }) (record at { ahead = ahead }) f.step record-is
         (server-look form.carries (controller_size c) (controller_record c) at h tail ahead is f.grows)
 
     ahead-there : (found : ControllerPlaces) → IsServer form.carries (controller_size new) (controller_record new) found → found.ahead ≡ (tail + controller_size c - serve_place c) % controller_size c
-    ahead-there found k = let i = k.ahead_is in let r : (controller_record new).known ≡ count_at (controller_size c) (length (served c)) tail = ap (λ (y : Controlled Served). y.known) record-is in let s : length (served new) ≡ length (served c) = ap (λ (y : Controlled Served). length y.served) record-is in omega arith
+    ahead-there found k = let i = k.ahead_is in let r : (controller_record new).known ≡ count_at (controller_size c) (length (completed c)) tail = ap (λ (y : Controlled Completed). y.known) record-is in let s : length (completed new) ≡ length (completed c) = ap (λ (y : Controlled Completed). length y.completed) record-is in omega arith
 
     pub look-found : (found : ControllerPlaces) → IsServer form.carries (controller_size new) (controller_record new) found → FoundAhead c found.ahead new
     look-found found k = let a = ahead-there found k in let g = f.grows in record {
       tail = tail;
       step = f.step;
       ahead = ahead-there found k;
-      same = record-is ∙ ap (λ (j : ℕ). let y : Controlled Served = record (controller_record c) { known = length (served c) + j } in y) (sym (ahead-there found k));
+      same = record-is ∙ ap (λ (j : ℕ). let y : Controlled Completed = record (controller_record c) { known = length (completed c) + j } in y) (sym (ahead-there found k));
       grows = omega arith;
     }
 
   -- a word that is loaded leaves all else
   pub loaded-leaves : (c new : ControllerSide form) (which : ControllerLoad) (word : ℕ) → LoadedWord which c word new → Leaves (controller_record c) (controller_record new)
-  loaded-leaves c new Tail word f = let r = record-is c new word f in record { served = ap (λ (y : Controlled Served). y.served) r; held = ap (λ (y : Controlled Served). y.held) r; head = ap (λ (y : Controlled Served). y.head) r; state = ap (λ (y : Controlled Served). y.state) r; barred = ap (λ (y : Controlled Served). y.barred) r }
-  loaded-leaves c new Request word f = let r = f.same in record { served = ap (λ (y : Controlled Served). y.served) r; held = ap (λ (y : Controlled Served). y.held) r; head = ap (λ (y : Controlled Served). y.head) r; state = ap (λ (y : Controlled Served). y.state) r; barred = ap (λ (y : Controlled Served). y.barred) r }
+  loaded-leaves c new Tail word f = let r = record-is c new word f in record { completed = ap (λ (y : Controlled Completed). y.completed) r; held = ap (λ (y : Controlled Completed). y.held) r; head = ap (λ (y : Controlled Completed). y.head) r; state = ap (λ (y : Controlled Completed). y.state) r; barred = ap (λ (y : Controlled Completed). y.barred) r }
+  loaded-leaves c new Request word f = let r = f.same in record { completed = ap (λ (y : Controlled Completed). y.completed) r; held = ap (λ (y : Controlled Completed). y.held) r; head = ap (λ (y : Controlled Completed). y.head) r; state = ap (λ (y : Controlled Completed). y.state) r; barred = ap (λ (y : Controlled Completed). y.barred) r }
 
   module _ (c : ControllerSide form) (at : ControllerPlaces) (h : IsServer form.carries (controller_size c) (controller_record c) at) where
     -- C2
     pub request-keeps : (new : ControllerSide form) (v : Control) → new ≡ controller_grown c (controller.LoadedRequest (control_word v)) → IsServer form.carries (controller_size new) (controller_record new) (record at { seen = v })
-    request-keeps new v step = served-as c new (controller.LoadedRequest (control_word v)) (record (controller_record c) { seen = control_word v }) (record at { seen = v }) step (record-after c new (controller.LoadedRequest (control_word v)) step)
+    request-keeps new v step = completed-as c new (controller.LoadedRequest (control_word v)) (record (controller_record c) { seen = control_word v }) (record at { seen = v }) step (record-after c new (controller.LoadedRequest (control_word v)) step)
         (server-request form.carries (controller_size c) (controller_record c) at h v)
 
     pub requested : (new : ControllerSide form) (v : Control) → new ≡ controller_grown c (controller.LoadedRequest (control_word v)) → LoadedRequested c (control_word v) new
@@ -244,14 +244,14 @@ module _ {Ring Posted Served Given D C : Type 0} {form : Form Ring Posted Served
       asks-disable serving = ⊎_elim (λ e. absurd (both_ways (is_serving (controller_state c)) e.idle (sym (ap is_serving h.state_is) ∙ serving))) (λ d. d) may
 
       pub disable-keeps : (new : ControllerSide form) → is_serving at.state ≡ true → new ≡ controller_grown c controller.Disabled → IsServer form.carries (controller_size new) (controller_record new) (record at { state = Ended; seen = Disabled })
-      disable-keeps new serving step = let d = asks-disable serving in served-as c new controller.Disabled (record (controller_record c) { state = Ended; seen = 0 }) (record at { state = Ended; seen = Disabled }) step (record-after c new controller.Disabled step)
+      disable-keeps new serving step = let d = asks-disable serving in completed-as c new controller.Disabled (record (controller_record c) { state = Ended; seen = 0 }) (record at { state = Ended; seen = Disabled }) step (record-after c new controller.Disabled step)
           (server-disable form.carries (controller_size c) (controller_record c) at h d.held)
 
     pub idle-unheld : is_serving at.state ≡ false → held c ≡ None
     idle-unheld idle = none-there (held c) (sym h.held_is ∙ ⊎_elim (λ t. absurd (both_ways (is_serving (controller_state c)) (sym (ap is_serving h.state_is) ∙ idle) (h.held_serving t))) (λ f. f) (cases_Bool at.holding))
 
     pub enable-keeps : (new : ControllerSide form) → is_serving at.state ≡ false → new ≡ controller_grown c controller.Enabled → IsServer form.carries (controller_size new) (controller_record new) (record at { serve = 0; ahead = 0; between = true; state = Serving; seen = Enabled })
-    enable-keeps new idle step = served-as c new controller.Enabled (record (controller_record c) { served = []; known = 0; head = 0; state = Serving; seen = 2; barred = false }) (record at { serve = 0; ahead = 0; between = true; state = Serving; seen = Enabled }) step (record-after c new controller.Enabled step)
+    enable-keeps new idle step = completed-as c new controller.Enabled (record (controller_record c) { completed = []; known = 0; head = 0; state = Serving; seen = 2; barred = false }) (record at { serve = 0; ahead = 0; between = true; state = Serving; seen = Enabled }) step (record-after c new controller.Enabled step)
         (server-enable form.carries (controller_size c) (controller_record c) at h idle)
 
     pub enabled-is : (new : ControllerSide form) → is_serving at.state ≡ false → new ≡ controller_grown c controller.Enabled → Answered c new

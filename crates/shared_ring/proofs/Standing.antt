@@ -37,14 +37,14 @@ pub front-is : (xs ys : List (ℕ × Buffer)) (x : ℕ × Buffer) → xs ≡ x �
 front-is xs ys x e = subst (λ (zs : List (ℕ × Buffer)). zs ≡ x ∷ rest zs) (sym e) refl
 
 -- a step leaves what a seat keeps, where its record and its slots go on together
-pub as-made : {Ring Posted Served Given D C E : Type 0} {form : Form Ring Posted Served Given D C} {whose : End (View (DriverEvent D) (ControllerEvent C)) E} (table table' : TableId) (me me' it : SeatOf D C) (size : ℕ) (mode : Completion) → IsSeat form whose table me size mode
+pub as-made : {Ring Posted Completed Reaped D C E : Type 0} {form : Form Ring Posted Completed Reaped D C} {whose : End (View (DriverEvent D) (ControllerEvent C)) E} (table table' : TableId) (me me' it : SeatOf D C) (size : ℕ) (mode : Completion) → IsSeat form whose table me size mode
     → table' ≡ table → me' ≡ it → it ≡ (whose.seat (whose.part it.0), whose.slots size (whose.part it.0)) → whose.Stands size (whose.part it.0) → IsSeat form whose table' me' size mode
 as-made {form = form} {whose = whose} table table' me me' it size mode inv t m whole stands =
     subst (λ (x : TableId). IsSeat form whose x me' size mode) (sym t)
     (subst (λ x. IsSeat form whose table x size mode) (sym m) (record { law = inv.law; size_is = inv.size_is; words = inv.words; lawful = inv.lawful; me_is = whole; stands = stands }))
 
 -- what the ring's table asks of a store and of a load that a seat makes
-module _ {Ring Posted Served Given D C : Type 0} (form : Form Ring Posted Served Given D C) (table ring : TableId) (key : ℕ × Completion) (me : SeatOf D C) where
+module _ {Ring Posted Completed Reaped D C : Type 0} (form : Form Ring Posted Completed Reaped D C) (table ring : TableId) (key : ℕ × Completion) (me : SeatOf D C) where
   abbrev pub Asks : (Step Buffer → SeatOf D C → ℕ → SeatOf D C → Type 0) → ℕ → ℕ → ℕ → Type 0
   Asks T id i v = (table ≡ ring) × (i < ring.words) × Allows (IsRuled form key.0 key.1) ring.slots id me i (λ _. v) (λ _. T (step ring.slots i v 0 none) me v)
 
@@ -72,7 +72,7 @@ module _ {D C : Type 0} {table : TableId} {size : ℕ} {mode : Completion} {ring
   pub within : (i : ℕ) → i < words_of size mode → i < ring.words
   within i h = let b : ring.words ≡ words_of size mode = ap (λ (z : TableId). z.words) (sym at.own) ∙ at.words in omega arith
 
-  module _ {Ring Posted Served Given : Type 0} (form : Form Ring Posted Served Given D C) where
+  module _ {Ring Posted Completed Reaped : Type 0} (form : Form Ring Posted Completed Reaped D C) where
     pub allow-at : (T : ℕ → SeatOf D C → ℕ → SeatOf D C → Type 0) (id i : ℕ) (f : ℕ → ℕ) (m m' : SeatOf D C) → m' ≡ m → Allows (IsRuled form size mode) size id m i f (T size m) → Allows (IsRuled form key.0 key.1) ring.slots id m' i f (T ring.slots m')
     allow-at T id i f m m' e a =
         subst (λ (x : ℕ). Allows (IsRuled form x key.1) ring.slots id m' i f (T ring.slots m')) (sym key-is)

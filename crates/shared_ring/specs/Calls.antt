@@ -18,14 +18,14 @@ use Rattle.shared_ring.specs.declared.ends.HandshakeStep.TheVariants.{AskEnable,
 use Rattle.shared_ring.specs.declared.events.DriverEvent.{DriverEvent}
 use Rattle.shared_ring.specs.declared.events.DriverEvent.TheVariants as driver
 use Rattle.shared_ring.specs.declared.events.ControllerEvent.TheVariants as controller
-use Rattle.shared_ring.specs.Ends.{DriverSide, posted, returned, next_place, ControllerSide, controller_size, controller_record, controller_state, served, known_ahead, held, is_between, head_stored, serve_place, seen, controller_grown}
+use Rattle.shared_ring.specs.Ends.{DriverSide, posted, returned, next_place, ControllerSide, controller_size, controller_record, controller_state, completed, known_ahead, held, is_between, head_stored, serve_place, seen, controller_grown}
 use Rattle.shared_ring.specs.Forms.{Form}
 use Rattle.shared_ring.specs.Records.{Driven, Controlled, ends_whole}
 use Rattle.shared_ring.specs.Slots.{is_there}
 use Rattle.shared_ring.specs.Steps.{CameBack, FoundTail}
 use Rattle.shared_ring.specs.Words.{control_word}
 
-module _ {Ring Posted Served Given D C : Type 0} {form : Form Ring Posted Served Given D C} where
+module _ {Ring Posted Completed Reaped D C : Type 0} {form : Form Ring Posted Completed Reaped D C} where
   abbrev pub IsFreshDriver : DriverSide form → Type 0
   IsFreshDriver d = d.events ≡ []
 
@@ -47,7 +47,7 @@ module _ {Ring Posted Served Given D C : Type 0} {form : Form Ring Posted Served
     pub tail : ℕ
     pub step : new ≡ controller_grown old (controller.Looked tail)
     pub ahead : count ≡ (tail + controller_size old - serve_place old) % controller_size old
-    pub same : controller_record new ≡ record (controller_record old) { known = length (served old) + count }
+    pub same : controller_record new ≡ record (controller_record old) { known = length (completed old) + count }
     pub grows : known_ahead old ≤ count
 
   -- An enabling was asked and may be answered.
@@ -55,13 +55,13 @@ module _ {Ring Posted Served Given D C : Type 0} {form : Form Ring Posted Served
     pub asked : seen c ≡ 1
     pub idle : is_serving (controller_state c) ≡ false
 
-  -- A new epoch begins. Nothing is served in it, and nothing is known.
+  -- A new epoch begins. Nothing is completed in it, and nothing is known.
   pub record AnsweredEnabling (old new : ControllerSide form) : Type 0 where
     pub was : is_serving (controller_state old) ≡ false
     pub step : new ≡ controller_grown old controller.Enabled
-    pub same : controller_record new ≡ record (controller_record old) { served = []; known = 0; head = 0; state = Serving; seen = 2; barred = false }
+    pub same : controller_record new ≡ record (controller_record old) { completed = []; known = 0; head = 0; state = Serving; seen = 2; barred = false }
 
-  -- The end serves and holds nothing, the last served item ends a frame, the head is stored after it, and the direction
+  -- The end serves and holds nothing, the last completed item ends a frame, the head is stored after it, and the direction
   -- allows a disabling.
   pub record IsSettled (c : ControllerSide form) : Type 0 where
     pub serving : is_serving (controller_state c) ≡ true
@@ -135,26 +135,26 @@ MayShake LoadControl s = Unit {0}
 MayShake AskDisable s = is_on s ≡ true
 
 -- The fields of a driver's end agree with its record.
-pub record IsPoster {Posted Given : Type 0} (n : ℕ) (x : Driven Posted Given) (at : DriverPlaces) : Type 0 where
+pub record IsPoster {Posted Reaped : Type 0} (n : ℕ) (x : Driven Posted Reaped) (at : DriverPlaces) : Type 0 where
   pub lawful : IsRingLength n
   pub size_is : at.size ≡ n
   pub fill_is : at.fill ≡ length x.posted % n
-  pub next_is : at.next ≡ (length x.given + x.reclaimed) % n
-  pub out_is : at.out + (length x.given + x.reclaimed) ≡ length x.posted
+  pub next_is : at.next ≡ (length x.reaped + x.reclaimed) % n
+  pub out_is : at.out + (length x.reaped + x.reclaimed) ≡ length x.posted
   pub room : at.out < n
   pub state_is : at.state ≡ x.state
   pub unreclaimed : is_answered x.state ≡ false → x.reclaimed ≡ 0
 
 -- The fields of a controller's end agree with its record.
-pub record IsServer {Served : Type 0} (carries : Served → Piece) (n : ℕ) (x : Controlled Served) (at : ControllerPlaces) : Type 0 where
+pub record IsServer {Completed : Type 0} (carries : Completed → Piece) (n : ℕ) (x : Controlled Completed) (at : ControllerPlaces) : Type 0 where
   pub lawful : IsRingLength n
   pub size_is : at.size ≡ n
-  pub serve_is : at.serve ≡ length x.served % n
-  pub ahead_is : at.ahead + length x.served ≡ x.known
+  pub serve_is : at.serve ≡ length x.completed % n
+  pub ahead_is : at.ahead + length x.completed ≡ x.known
   pub ahead_below : at.ahead < n
   pub held_is : at.holding ≡ is_there x.held
   pub held_ahead : at.holding ≡ true → 0 < at.ahead
   pub held_serving : at.holding ≡ true → is_serving x.state ≡ true
-  pub between_is : at.between ≡ ends_whole carries x.served
+  pub between_is : at.between ≡ ends_whole carries x.completed
   pub state_is : at.state ≡ x.state
   pub seen_is : control_word at.seen ≡ x.seen

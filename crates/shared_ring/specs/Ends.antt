@@ -22,7 +22,7 @@ abbrev pub grown : {Event : Type 0} → Side Event → Event → Side Event
 grown s e = record s { events = s.events ++ e ∷ [] }
 
 -- An end of a ring of one direction.
-module _ {Ring Posted Served Given D C : Type 0} (form : Form Ring Posted Served Given D C) where
+module _ {Ring Posted Completed Reaped D C : Type 0} (form : Form Ring Posted Completed Reaped D C) where
   pub record DriverSide : Type 0 where
     pub table : TableId
     pub completion : Completion
@@ -45,13 +45,13 @@ module _ {Ring Posted Served Given D C : Type 0} (form : Form Ring Posted Served
   abbrev pub controller_side : ControllerSide → Side (ControllerEvent C)
   controller_side c = record { table = c.table; completion = c.completion; events = c.events }
 
-module _ {Ring Posted Served Given D C : Type 0} {form : Form Ring Posted Served Given D C} where
+module _ {Ring Posted Completed Reaped D C : Type 0} {form : Form Ring Posted Completed Reaped D C} where
   -- The contents of a driver's end.
   abbrev pub driver_size : DriverSide form → ℕ
   driver_size d = d.table.slots
 
   -- Everything that the driver did in this epoch.
-  abbrev pub driver_record : DriverSide form → Driven Posted Given
+  abbrev pub driver_record : DriverSide form → Driven Posted Reaped
   driver_record d = driving form d.events
 
   abbrev pub posted : DriverSide form → List Posted
@@ -60,15 +60,15 @@ module _ {Ring Posted Served Given D C : Type 0} {form : Form Ring Posted Served
   abbrev pub published : DriverSide form → ℕ
   published d = (driving form d.events).published
 
-  abbrev pub given : DriverSide form → List Given
-  given d = (driving form d.events).given
+  abbrev pub reaped : DriverSide form → List Reaped
+  reaped d = (driving form d.events).reaped
 
   abbrev pub reclaimed : DriverSide form → ℕ
   reclaimed d = (driving form d.events).reclaimed
 
-  -- The number of buffers that came back: given back or reclaimed.
+  -- The number of buffers that came back: reaped or reclaimed.
   abbrev pub returned : DriverSide form → ℕ
-  returned d = length (given d) + reclaimed d
+  returned d = length (reaped d) + reclaimed d
 
   abbrev pub driver_state : DriverSide form → DriverState
   driver_state d = (driving form d.events).state
@@ -92,15 +92,15 @@ module _ {Ring Posted Served Given D C : Type 0} {form : Form Ring Posted Served
   controller_size c = c.table.slots
 
   -- Everything that the controller did since it was enabled.
-  abbrev pub controller_record : ControllerSide form → Controlled Served
+  abbrev pub controller_record : ControllerSide form → Controlled Completed
   controller_record c = controlling form (controller_size c) c.events
 
-  abbrev pub served : ControllerSide form → List Served
-  served c = (controller_record c).served
+  abbrev pub completed : ControllerSide form → List Completed
+  completed c = (controller_record c).completed
 
-  -- The number of descriptors that the controller knows of and has not served.
+  -- The number of descriptors that the controller knows of and has not completed.
   abbrev pub known_ahead : ControllerSide form → ℕ
-  known_ahead c = (controller_record c).known - length (served c)
+  known_ahead c = (controller_record c).known - length (completed c)
 
   -- The buffer that the controller fetched and still has.
   abbrev pub held : ControllerSide form → Option Buffer
@@ -121,12 +121,12 @@ module _ {Ring Posted Served Given D C : Type 0} {form : Form Ring Posted Served
   abbrev pub is_barred : ControllerSide form → Bool
   is_barred c = (controller_record c).barred
 
-  -- Whether the last served item ends a frame; true if there is none.
+  -- Whether the last completed item ends a frame; true if there is none.
   abbrev pub is_between : ControllerSide form → Bool
-  is_between c = ends_whole form.carries (served c)
+  is_between c = ends_whole form.carries (completed c)
 
   abbrev pub serve_place : ControllerSide form → ℕ
-  serve_place c = length (served c) % controller_size c
+  serve_place c = length (completed c) % controller_size c
 
   abbrev pub controller_grown : ControllerSide form → ControllerEvent C → ControllerSide form
   controller_grown c e = record c { events = c.events ++ e ∷ [] }

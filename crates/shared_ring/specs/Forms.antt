@@ -13,11 +13,11 @@ use Rattle.shared_ring.specs.Records as records
 use Rattle.shared_ring.specs.Records.{Driven, Controlled, undriven, uncontrolled}
 
 -- How to read the records of the two ends.
-pub record Reading (Posted Served Given D C : Type 0) : Type 1 where
+pub record Reading (Posted Completed Reaped D C : Type 0) : Type 1 where
   -- What a driver posts with a word and a buffer, and how the direction's own steps change the records.
   pub posting : ℕ → Buffer → Posted
-  pub drive_own : Driven Posted Given → D → Driven Posted Given
-  pub control_own : Controlled Served → C → Controlled Served
+  pub drive_own : Driven Posted Reaped → D → Driven Posted Reaped
+  pub control_own : Controlled Completed → C → Controlled Completed
   -- The access, in a table of `n` places, of a direction's own step.
   pub driver_names : ℕ → D → Access
   pub controller_names : ℕ → C → Access
@@ -25,13 +25,13 @@ pub record Reading (Posted Served Given D C : Type 0) : Type 1 where
   pub Known : Type 0
   pub unknown : Known
   pub saw_head : Known → ℕ → Known
-  pub know_own : Driven Posted Given → Known → D → Known
+  pub know_own : Driven Posted Reaped → Known → D → Known
 
-pub record Form (Ring Posted Served Given D C : Type 0) : Type 1 where
-  pub reading : Reading Posted Served Given D C
+pub record Form (Ring Posted Completed Reaped D C : Type 0) : Type 1 where
+  pub reading : Reading Posted Completed Reaped D C
   pub open reading use *
-  -- The piece of a frame that a served item carries.
-  pub carries : Served → Piece
+  -- The piece of a frame that a completed item carries.
+  pub carries : Completed → Piece
   -- The ways in which its rings may report.
   pub Reports : Completion → Type 0
   -- In a ring of `n` places: whether a buffer may be posted with this word after the posted items, whether these may be
@@ -40,34 +40,34 @@ pub record Form (Ring Posted Served Given D C : Type 0) : Type 1 where
   pub MayPublish : List Posted → Type 0
   pub MayClearTail : Completion → Type 0
   -- Whether a disabling may be answered once the head is stored and nothing is held.
-  pub MayDisable : Controlled Served → Type 0
+  pub MayDisable : Controlled Completed → Type 0
   -- What is known of a fetched word and its buffer, and of the buffer of a posted item.
-  pub IsFetched : ℕ → Controlled Served → ℕ → Buffer → Type 0
+  pub IsFetched : ℕ → Controlled Completed → ℕ → Buffer → Type 0
   pub IsOf : Posted → Buffer → Type 0
   -- Words, slots and both records agree with a ring; the consequence for both records; and the consequence for the
   -- slots of a closed table.
-  pub Lies : ℕ → Completion → Ring → List (DriverEvent D) → List (ControllerEvent C) → List ℕ → List (maybe.Option Buffer) → Type 0
+  pub IsLaidOut : ℕ → Completion → Ring → List (DriverEvent D) → List (ControllerEvent C) → List ℕ → List (maybe.Option Buffer) → Type 0
   pub AreOf : ℕ → List (DriverEvent D) → List (ControllerEvent C) → Type 0
   pub LeftIn : ℕ → List (DriverEvent D) → List (ControllerEvent C) → List Buffer → Type 0
 
-module _ {Ring Posted Served Given D C : Type 0} (form : Form Ring Posted Served Given D C) where
+module _ {Ring Posted Completed Reaped D C : Type 0} (form : Form Ring Posted Completed Reaped D C) where
   -- The contents of the records, and the effect of one more event.
-  abbrev pub drive : Driven Posted Given → DriverEvent D → Driven Posted Given
+  abbrev pub drive : Driven Posted Reaped → DriverEvent D → Driven Posted Reaped
   drive d e = records.drive form.posting form.drive_own d e
 
-  abbrev pub driving : List (DriverEvent D) → Driven Posted Given
+  abbrev pub driving : List (DriverEvent D) → Driven Posted Reaped
   driving es = records.driving_from form.posting form.drive_own undriven es
 
-  abbrev pub know : Driven Posted Given → form.Known → DriverEvent D → form.Known
+  abbrev pub know : Driven Posted Reaped → form.Known → DriverEvent D → form.Known
   know d k e = records.know form.posting form.drive_own form.saw_head form.know_own d k e
 
   abbrev pub knowing : List (DriverEvent D) → form.Known
   knowing es = records.knowing_from form.posting form.drive_own form.saw_head form.know_own undriven form.unknown es
 
-  abbrev pub control : ℕ → Controlled Served → ControllerEvent C → Controlled Served
+  abbrev pub control : ℕ → Controlled Completed → ControllerEvent C → Controlled Completed
   control n c e = records.control n form.control_own c e
 
-  abbrev pub controlling : ℕ → List (ControllerEvent C) → Controlled Served
+  abbrev pub controlling : ℕ → List (ControllerEvent C) → Controlled Completed
   controlling n es = records.controlling_from n form.control_own uncontrolled es
 
   -- The access of an event.

@@ -13,10 +13,10 @@ use Rattle.shared_ring.specs.Forms.{Form}
 use Rattle.shared_ring.specs.Plays.{End, Seated, driver_end, controller_end}
 use Rattle.shared_ring.specs.Tables.{IsRuledBy, IsTableOf, words_of}
 
-module _ {Ring Posted Served Given D C : Type 0} (form : Form Ring Posted Served Given D C) where
+module _ {Ring Posted Completed Reaped D C : Type 0} (form : Form Ring Posted Completed Reaped D C) where
   -- The rule of the table of a ring of `n` places.
   abbrev pub IsRuled : ℕ → Completion → State Buffer (View (DriverEvent D) (ControllerEvent C)) → Type 0
-  IsRuled n mode s = IsRuledBy (form.Lies n mode) n (words_of n mode) s
+  IsRuled n mode s = IsRuledBy (form.IsLaidOut n mode) n (words_of n mode) s
 
   -- A ring's table, and empty room for all its buffers.
   pub record IsRing (table : TableId) (key : ℕ × Completion) (room : List (Option Buffer)) (capacity : ℕ) : Type 0 where

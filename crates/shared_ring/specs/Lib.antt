@@ -8,7 +8,7 @@ pub mod Ends
 pub mod Directions
 pub mod Own
 pub mod Registers
-pub mod Lies
+pub mod LaidOut
 pub mod Tables
 pub mod Plays
 pub mod Counting

@@ -11,7 +11,7 @@ use Rattle.ring_model.specs.declared.states.Owner.{Owner}
 use Rattle.ring_model.specs.declared.states.Owner.TheVariants as owner
 use Rattle.ring_model.specs.shared.Handshakes.{is_open, is_ended}
 use Rattle.ring_model.specs.shared.Places.{between_places}
-use Rattle.shared_ring.specs.Ends.{DriverSide, driver_size, driver_state, posted, returned, ControllerSide, controller_state, served, held}
+use Rattle.shared_ring.specs.Ends.{DriverSide, driver_size, driver_state, posted, returned, ControllerSide, controller_state, completed, held}
 use Rattle.shared_ring.specs.Forms.{Form}
 
 -- The slot at a place, if its buffer is in the ring: fewer than `out` places after `next`, and not held.
@@ -56,7 +56,7 @@ abbrev pub IsTold : Option ℕ → ℕ → ℕ → Type 0
 IsTold None fewer more = Unit {0}
 IsTold (Some left) fewer more = more ≡ fewer + left
 
-module _ {Ring Posted Served Given D C : Type 0} {form : Form Ring Posted Served Given D C} where
+module _ {Ring Posted Completed Reaped D C : Type 0} {form : Form Ring Posted Completed Reaped D C} where
   -- A new ring. It is disabled, and neither end has made a step.
   pub record MadeSeats (n : ℕ) (mode : Completion) (ring : TableId) (d : DriverSide form) (c : ControllerSide form) : Type 0 where
     pub length_is : IsRingLength n
@@ -80,9 +80,9 @@ module _ {Ring Posted Served Given D C : Type 0} {form : Form Ring Posted Served
   abbrev pub AllCameBack : (Posted → ℕ) → DriverSide form → ControllerSide form → List (Option Buffer) → Type 0
   AllCameBack number d c buffers = IsPermutation (out_of number d) (numbers_at buffers ++ number_at (held c))
 
-  -- The items served in the driver's epoch: none until the controller has answered its enabling.
-  abbrev pub served_now : DriverSide form → ControllerSide form → List Served
-  served_now d c = if is_unanswered d c then [] else served c
+  -- The items completed in the driver's epoch: none until the controller has answered its enabling.
+  abbrev pub completed_now : DriverSide form → ControllerSide form → List Completed
+  completed_now d c = if is_unanswered d c then [] else completed c
 
   -- Both records are those of one ring.
   abbrev pub Met : DriverSide form → ControllerSide form → Type 0

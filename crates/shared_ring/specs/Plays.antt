@@ -51,7 +51,7 @@ IsControl n es i r b = r ≤ 3
 abbrev pub IsPlace : {E : Type 0} → Tells E
 IsPlace n es i r b = r < n
 
-module _ {Ring Posted Served Given D C : Type 0} (form : Form Ring Posted Served Given D C) where
+module _ {Ring Posted Completed Reaped D C : Type 0} (form : Form Ring Posted Completed Reaped D C) where
   abbrev pub driver_end : End (View (DriverEvent D) (ControllerEvent C)) (DriverEvent D)
   driver_end = record { part = driver_part; seat = Driver; names = driver_access form; slots = λ n es. driver_slots n (driving form es); Stands = λ n es. IsWindow n (driving form es) }
 
@@ -66,7 +66,7 @@ module _ {Ring Posted Served Given D C : Type 0} (form : Form Ring Posted Served
   -- A place of the ring. The items posted up to it are at least as many as the controller knew of.
   pub record IsTail (n : ℕ) (es : List (ControllerEvent C)) (i r : ℕ) (b : Buffer) : Type 0 where
     pub below : r < n
-    pub grows : (controlling form n es).known ≤ count_at n (length (controlling form n es).served) r
+    pub grows : (controlling form n es).known ≤ count_at n (length (controlling form n es).completed) r
 
   -- The next descriptor, and the buffer that comes with it.
   abbrev pub IsNext : Tells (ControllerEvent C)

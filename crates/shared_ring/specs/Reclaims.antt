@@ -9,7 +9,7 @@ abbrev pub reclaiming : {D : Type 0} → ℕ → List (DriverEvent D) → ℕ �
 reclaiming n es place r b = Reclaimed place b
 
 -- The buffer is that of the oldest posting that is out.
-pub record Reclaims {Ring Posted Served Given D C : Type 0} (form : Form Ring Posted Served Given D C) (n : ℕ) (es : List (DriverEvent D)) (place r : ℕ) (b : Buffer) : Type 0 where
+pub record Reclaims {Ring Posted Completed Reaped D C : Type 0} (form : Form Ring Posted Completed Reaped D C) (n : ℕ) (es : List (DriverEvent D)) (place r : ℕ) (b : Buffer) : Type 0 where
   pub item : Posted
-  pub there : slice_get (driving form es).posted (length (driving form es).given + (driving form es).reclaimed) ≡ Some item
+  pub there : slice_get (driving form es).posted (length (driving form es).reaped + (driving form es).reclaimed) ≡ Some item
   pub is_of : form.IsOf item b

@@ -32,7 +32,7 @@ pub record Registers : Type 0 where
   pub control : ℕ
   pub quiet : ℕ
 
-abbrev pub registers_of : {Posted Served Given : Type 0} → Queue Posted Served Given → ℕ → Registers
+abbrev pub registers_of : {Posted Completed Reaped : Type 0} → Queue Posted Completed Reaped → ℕ → Registers
 registers_of q quiet = record { head = q.head; tail = q.published % q.size; control = q.handshake.control; quiet = quiet }
 
 pub record HasRegisters (n : ℕ) (g : Registers) (words : List ℕ) : Type 0 where

@@ -3,11 +3,11 @@ use Rattle.std.specs.Prelude.{◌≡◌, ℕ, ◌<◌, ◌≤◌, length, Some, 
 use Rattle.buffer_pool.specs.Buffer.{Buffer}
 use Rattle.shared_ring.specs.declared.events.DriverEvent.TheVariants as driver
 use Rattle.shared_ring.specs.declared.events.ControllerEvent.TheVariants as controller
-use Rattle.shared_ring.specs.Ends.{DriverSide, posted, returned, driver_grown, ControllerSide, controller_size, controller_record, served, controller_grown}
+use Rattle.shared_ring.specs.Ends.{DriverSide, posted, returned, driver_grown, ControllerSide, controller_size, controller_record, completed, controller_grown}
 use Rattle.shared_ring.specs.Forms.{Form}
 use Rattle.shared_ring.specs.Records.{count_at}
 
-module _ {Ring Posted Served Given D C : Type 0} {form : Form Ring Posted Served Given D C} where
+module _ {Ring Posted Completed Reaped D C : Type 0} {form : Form Ring Posted Completed Reaped D C} where
   -- C6: the buffer of the oldest posting that is out came back.
   pub record CameBack (old : DriverSide form) (place : ℕ) (buf : Buffer) (new : DriverSide form) : Type 0 where
     pub step : new ≡ driver_grown old (driver.Reclaimed place buf)
@@ -19,7 +19,7 @@ module _ {Ring Posted Served Given D C : Type 0} {form : Form Ring Posted Served
   pub record FoundTail (old : ControllerSide form) (tail : ℕ) (new : ControllerSide form) : Type 0 where
     pub step : new ≡ controller_grown old (controller.Looked tail)
     pub below : tail < controller_size old
-    pub grows : (controller_record old).known ≤ count_at (controller_size old) (length (served old)) tail
+    pub grows : (controller_record old).known ≤ count_at (controller_size old) (length (completed old)) tail
 
   -- A4, B4: the next descriptor was loaded, and its buffer came out.
   pub record CameOut (old : ControllerSide form) (place : ℕ) (buf : Buffer) (word : ℕ) (new : ControllerSide form) : Type 0 where

@@ -1,4 +1,4 @@
--- The rule of a ring's table, for any ring: `Lies` says that words, slots and both records agree with one.
+-- The rule of a ring's table, for any ring: `IsLaidOut` says that words, slots and both records agree with one.
 use Rattle.std.specs.Prelude.{◌≡◌, ℕ, ◌+◌, ◌<◌, ◌⊎◌, List, [], ◌∷◌, map, replicate}
 use mathlib.Core.Option as maybe
 use mathlib.Core.Option.{some}
@@ -12,13 +12,13 @@ use Rattle.shared_ring.specs.declared.events.View.{View}
 use Rattle.shared_ring.specs.declared.events.View.TheVariants.{Maker}
 use Rattle.shared_ring.specs.Seats.{HasSeats}
 
-module _ {Ring D C : Type 0} (Lies : Ring → List D → List C → List ℕ → List (maybe.Option Buffer) → Type 0) where
+module _ {Ring D C : Type 0} (IsLaidOut : Ring → List D → List C → List ℕ → List (maybe.Option Buffer) → Type 0) where
   -- Both ends exist.
   pub record Runs (s : State Buffer (View D C)) : Type 0 where
     pub ring : Ring
     pub ds : List D
     pub cs : List C
-    pub lies : Lies ring ds cs s.words s.homes
+    pub laid_out : IsLaidOut ring ds cs s.words s.homes
     pub seats : HasSeats ds cs s.views
 
 -- The ring is being made: one seat, words of 0, and all slots in the table and empty.
@@ -27,9 +27,9 @@ pub record Begins (D C : Type 0) (n m : ℕ) (s : State Buffer (View D C)) : Typ
   pub homes : s.homes ≡ map some (replicate n blank)
   pub views : s.views ≡ Maker ∷ []
 
-module _ {Ring D C : Type 0} (Lies : Ring → List D → List C → List ℕ → List (maybe.Option Buffer) → Type 0) where
+module _ {Ring D C : Type 0} (IsLaidOut : Ring → List D → List C → List ℕ → List (maybe.Option Buffer) → Type 0) where
   abbrev pub IsRuledBy : ℕ → ℕ → State Buffer (View D C) → Type 0
-  IsRuledBy n m s = (1 < n) × (Begins D C n m s ⊎ Runs Lies s)
+  IsRuledBy n m s = (1 < n) × (Begins D C n m s ⊎ Runs IsLaidOut s)
 
 -- A ring that reports through a head word has one word more.
 abbrev pub words_of : ℕ → Completion → ℕ

@@ -9,11 +9,11 @@ pub trait Direction<D, C> {
 
     ghost Posted: { Type 0 };
 
-    ghost Served: { Type 0 };
+    ghost Completed: { Type 0 };
 
-    ghost Given: { Type 0 };
+    ghost Reaped: { Type 0 };
 
-    ghost form: { Form Ring Posted Served Given D C };
+    ghost form: { Form Ring Posted Completed Reaped D C };
 }
 
 /// A step that only one direction has: the event that it adds to its end's record, and the facts that it establishes

@@ -7,7 +7,7 @@ ghost use Rattle.ring_model.specs.shared.Handshakes.{is_open, is_live, is_new, i
 ghost use Rattle.ring_model.specs.shared.Frames.{unfinished};
 ghost use Rattle.ring_model.specs.declared.states.ControllerState.TheVariants as controller_state_is;
 ghost use Rattle.shared_ring.specs.Calls.{IsPoster, MayShake, StoredBy, shake_event, shaken, IsServer, IsSettled, MayAnswer, Answered, MayLoadWord, LoadedWord, FoundAhead};
-ghost use Rattle.shared_ring.specs.Ends.{Side, driver_of, driver_size, driver_record, posted, returned, driver_state, known_of, driver_grown, controller_of, controller_size, controller_record, served, known_ahead, held, controller_state, is_between, controller_grown};
+ghost use Rattle.shared_ring.specs.Ends.{Side, driver_of, driver_size, driver_record, posted, returned, driver_state, known_of, driver_grown, controller_of, controller_size, controller_record, completed, known_ahead, held, controller_state, is_between, controller_grown};
 ghost use Rattle.shared_ring.specs.Words.{control_word};
 ghost use Rattle.shared_ring.specs.declared.events.DriverEvent.{DriverEvent};
 ghost use Rattle.shared_ring.specs.declared.events.DriverEvent.TheVariants.{AskedEnable, LoadedControl, AskedDisable};
@@ -198,7 +198,7 @@ pub struct ControllerPlaces {
     pub ahead: u16,
     /// Whether the end holds a fetched buffer.
     pub holding: bool,
-    /// Whether the last served segment ends a frame, or none is served.
+    /// Whether the last completed segment ends a frame, or none is completed.
     pub between: bool,
     /// How far the controller is in enabling and disabling the queue.
     pub state: ControllerState,
@@ -291,7 +291,7 @@ pub trait ControllerEnd<D, C, R: Direction<D, C>>: Sized {
     #[inline]
     final fn is_between_frames(&self) -> bool
         ensures value { result ≡ is_between (controller_of R.form (side self.now)) }
-        ensures rest { result ≡ true → unfinished R.form.carries (served (controller_of R.form (side self.now))) ≡ [] }
+        ensures rest { result ≡ true → unfinished R.form.carries (completed (controller_of R.form (side self.now))) ≡ [] }
     {
         self.at().between
     }

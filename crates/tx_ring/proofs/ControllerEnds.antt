@@ -18,13 +18,13 @@ use Rattle.shared_ring.specs.Slots.{is_there}
 use Rattle.shared_ring.specs.Steps.{CameOut}
 use Rattle.shared_ring.specs.Records.{uncontrolled}
 use Rattle.shared_ring.proofs.Serving as shared
-use Rattle.shared_ring.proofs.Serving.{unplaced, record-after, loaded-leaves, server-fetch, server-served, server-same}
+use Rattle.shared_ring.proofs.Serving.{unplaced, record-after, loaded-leaves, server-fetch, server-completed, server-same}
 use Rattle.tx_ring.specs.declared.events.TxControllerOwn.TheVariants.{Sent, Reported}
 use Rattle.descriptor.specs.Transmit.{eop_of, rs_of, paylen_of}
 use Rattle.tx_ring.specs.Records.{Posting, TxControlled, ControllerStep, control, fetch_word, posting_of}
 use Rattle.tx_ring.specs.Ends.{ControllerSide, controller_size, controller_record, sent, known_ready, held, held_word, controller_state, is_owed, serve_place, controller_grown}
 use Rattle.tx_ring.specs.Calls.{IsServerOf, IsControllerEnd, Fetched}
-use Rattle.tx_ring.proofs.Lying.{fetched-snoc}
+use Rattle.tx_ring.proofs.Placing.{fetched-snoc}
 
 pub word-after : (c new : ControllerSide) (e : ControllerStep) → new ≡ controller_grown c e → held_word new ≡ fetch_word (held_word c) e
 word-after c new e step = ap held_word step ∙ fetched-snoc c.events e
@@ -62,7 +62,7 @@ module _ (c : ControllerSide) (at : ControllerPlaces) (last : ℕ) (ends asks ow
     fetched read number len e r p = let i = h.ahead_is in subst (λ (s : ControllerSide). Fetched s buf read new) was (record {
       word = word;
       step = f.step ∙ ap (λ (k : ℕ). controller_grown c (controller.Fetched k word buf)) h.serve_is;
-      says = f.fetched.says ∙ ap (λ (b : Bool). tx_word (length buf.bytes) b (rs_of word) (paylen_of word)) (sym e) ∙ ap (λ (b : Bool). tx_word (length buf.bytes) read.eop b (paylen_of word)) (sym r) ∙ ap (λ (v : ℕ). tx_word (length buf.bytes) read.eop read.rs v) (sym p);
+      word_is = f.fetched.word_is ∙ ap (λ (b : Bool). tx_word (length buf.bytes) b (rs_of word) (paylen_of word)) (sym e) ∙ ap (λ (b : Bool). tx_word (length buf.bytes) read.eop b (paylen_of word)) (sym r) ∙ ap (λ (v : ℕ). tx_word (length buf.bytes) read.eop read.rs v) (sym p);
       eop = e;
       rs = r;
       paylen = p;
@@ -91,24 +91,24 @@ module _ (c : ControllerSide) (at : ControllerPlaces) (last : ℕ) (ends asks ow
 
     module _ (new : ControllerSide) (head : ℕ) (is : head ≡ (if (at.serve + 1) == controller_size c then 0 else (at.serve + 1))) (step : new ≡ controller_grown c (controller.Own (Sent head (held_word c) buf))) where
       pub send-keeps : IsControllerEnd new (record at { serve = head; ahead = at.ahead - 1; holding = false; between = ends }) at.serve ends asks asks
-      send-keeps = let len = length-append x.served (posting_of (held_word c) buf ∷ []) in
+      send-keeps = let len = length-append x.completed (posting_of (held_word c) buf ∷ []) in
           end-after c new (controller.Own (Sent head (held_word c) buf)) (record at { serve = head; ahead = at.ahead - 1; holding = false; between = ends }) at.serve ends asks asks step (record {
-            server = server-served carried (controller_size c) x at h.server (posting_of (held_word c) buf) head ends holds is (h.ends_is holds) head (rs_of (held_word c));
+            server = server-completed carried (controller_size c) x at h.server (posting_of (held_word c) buf) head ends holds is (h.ends_is holds) head (rs_of (held_word c));
             head_is = λ f. send-head head is ∙ ap (λ (j : ℕ). j % n) (sym len);
             ends_is = λ f. absurd (false≢true f);
             asks_is = λ f. absurd (false≢true f);
             owing_is = h.asks_is holds;
             owing_serving = λ f. h.held_serving holds;
-            last_is = λ f. h.serve_is ∙ ap (λ (j : ℕ). j % n) (let g : length x.served ≡ length (x.served ++ posting_of (held_word c) buf ∷ []) - 1 = omega arith in g);
+            last_is = λ f. h.serve_is ∙ ap (λ (j : ℕ). j % n) (let g : length x.completed ≡ length (x.completed ++ posting_of (held_word c) buf ∷ []) - 1 = omega arith in g);
           })
 
       pub send-step : new ≡ controller_grown now (controller.Own (Sent ((length (sent now) + 1) % controller_size now) (held_word now) buf))
       send-step = step ∙ ap (λ (k : ℕ). controller_grown c (controller.Own (Sent k (held_word c) buf))) (send-head head is) ∙ ap (λ (s : ControllerSide). controller_grown s (controller.Own (Sent ((length (sent s) + 1) % controller_size s) (held_word s) buf))) was
 
-      pub send-record : controller_record new ≡ record (controller_record now) { served = sent now ++ posting_of (held_word now) buf ∷ []; held = None; head = (length (sent now) + 1) % controller_size now; barred = rs_of (held_word now) }
+      pub send-record : controller_record new ≡ record (controller_record now) { completed = sent now ++ posting_of (held_word now) buf ∷ []; held = None; head = (length (sent now) + 1) % controller_size now; barred = rs_of (held_word now) }
       send-record = record-after c new (controller.Own (Sent head (held_word c) buf)) step
-          ∙ ap (λ (k : ℕ). let y : TxControlled = record x { served = x.served ++ posting_of (held_word c) buf ∷ []; held = None; head = k; barred = rs_of (held_word c) } in y) (send-head head is)
-          ∙ ap (λ (s : ControllerSide). let y : TxControlled = record (controller_record s) { served = sent s ++ posting_of (held_word s) buf ∷ []; held = None; head = (length (sent s) + 1) % controller_size s; barred = rs_of (held_word s) } in y) was
+          ∙ ap (λ (k : ℕ). let y : TxControlled = record x { completed = x.completed ++ posting_of (held_word c) buf ∷ []; held = None; head = k; barred = rs_of (held_word c) } in y) (send-head head is)
+          ∙ ap (λ (s : ControllerSide). let y : TxControlled = record (controller_record s) { completed = sent s ++ posting_of (held_word s) buf ∷ []; held = None; head = (length (sent s) + 1) % controller_size s; barred = rs_of (held_word s) } in y) was
 
   -- B6
   module _ (owes : is_owed now ≡ true) where
@@ -148,12 +148,12 @@ module _ (c : ControllerSide) (at : ControllerPlaces) (last : ℕ) (ends asks ow
   pub load-keeps : (new : ControllerSide) (which : ControllerLoad) (word : ℕ) (at' : ControllerPlaces) → LoadedWord which c word new → IsServer carried (controller_size new) (controller_record new) at' → IsControllerEnd new at' last ends asks owing
   load-keeps new which word at' f k = let l = loaded-leaves c new which word f in let w = loaded-word new which word f in let sizes : controller_size new ≡ controller_size c = loaded-size new which word f in record {
     server = k;
-    head_is = λ t. l.head ∙ h.head_is (ap is_serving (sym l.state) ∙ t) ∙ ap (λ (m : ℕ). length x.served % m) (sym sizes) ∙ ap (λ (xs : List Posting). length xs % controller_size new) (sym l.served);
+    head_is = λ t. l.head ∙ h.head_is (ap is_serving (sym l.state) ∙ t) ∙ ap (λ (m : ℕ). length x.completed % m) (sym sizes) ∙ ap (λ (xs : List Posting). length xs % controller_size new) (sym l.completed);
     ends_is = still-ends new at' w l.held k;
     asks_is = still-asks new at' w l.held k;
     owing_is = h.owing_is ∙ sym l.barred;
     owing_serving = λ t. ap is_serving l.state ∙ h.owing_serving t;
-    last_is = λ t. h.last_is t ∙ ap (λ (m : ℕ). (length x.served - 1) % m) (sym sizes) ∙ ap (λ (xs : List Posting). (length xs - 1) % controller_size new) (sym l.served);
+    last_is = λ t. h.last_is t ∙ ap (λ (m : ℕ). (length x.completed - 1) % m) (sym sizes) ∙ ap (λ (xs : List Posting). (length xs - 1) % controller_size new) (sym l.completed);
   }
     where
       loaded-size : (new : ControllerSide) (which : ControllerLoad) (word : ℕ) → LoadedWord which c word new → controller_size new ≡ controller_size c
@@ -165,7 +165,7 @@ module _ (c : ControllerSide) (at : ControllerPlaces) (last : ℕ) (ends asks ow
   answer-keeps new at' may answered k = ⊎_elim
       (λ a. let y = record-after c new controller.Enabled a.step in let w = word-after c new controller.Enabled a.step in record {
         server = k;
-        head_is = λ t. ap (λ (z : TxControlled). z.head) y ∙ sym (zero-mod (controller_size new)) ∙ ap (λ (z : TxControlled). length z.served % controller_size new) (sym y);
+        head_is = λ t. ap (λ (z : TxControlled). z.head) y ∙ sym (zero-mod (controller_size new)) ∙ ap (λ (z : TxControlled). length z.completed % controller_size new) (sym y);
         ends_is = still-ends new at' w (ap (λ (z : TxControlled). z.held) y) k;
         asks_is = still-asks new at' w (ap (λ (z : TxControlled). z.held) y) k;
         owing_is = ap (λ (z : TxControlled). z.barred) (sym y);

@@ -70,7 +70,7 @@ module _ (d : DriverSide) (at : DriverPlaces) (seen done unseen : ℕ) (whole : 
     on = ap (λ (s : DriverSide). is_live (driver_state s)) was ∙ live
 
     pub clean-keeps : (new : DriverSide) (buf : Buffer) (next' : ℕ) → CameClean d at.next buf new → next' ≡ (if (at.next + 1) == driver_size d then 0 else (at.next + 1)) → IsDriverEnd new (record at { next = next'; out = at.out - 1 }) seen (done - 1) unseen whole asks passed
-    clean-keeps new buf next' f e = end-as d new (driver.Own (Cleaned at.next buf)) (record (driver_record d) { given = cleaned d ++ buf.number ∷ [] }) (known_of d) (record at { next = next'; out = at.out - 1 }) seen (done - 1) unseen whole asks passed f.step refl refl
+    clean-keeps new buf next' f e = end-as d new (driver.Own (Cleaned at.next buf)) (record (driver_record d) { reaped = cleaned d ++ buf.number ∷ [] }) (known_of d) (record at { next = next'; out = at.out - 1 }) seen (done - 1) unseen whole asks passed f.step refl refl
         (end-clean (driver_size d) (driver_record d) (known_of d) at seen done unseen whole asks passed h buf.number next' below on e)
 
     pub cleaned-one : (new : DriverSide) (buf : Buffer) → CameClean d at.next buf new → CleanedOne now buf new

@@ -41,13 +41,13 @@ asked-post n ps seen asks p at pos count is room low old j above below =
 
 module _ (n : ℕ) (x : TxDriven) (k : Knowing) (at : DriverPlaces) (seen done unseen : ℕ) (whole : Bool) (asks : List Bool) (passed : ℕ) (h : IsEndOf n x k at seen done unseen whole asks passed) where
   -- what is posted and cleaned, and what is seen reported, is left; how many are known to have asked for no report may change
-  end-with : (y : TxDriven) (head : Option ℕ) (at' : DriverPlaces) (passed' : ℕ) → IsPoster n y at' → y.posted ≡ x.posted → y.given ≡ x.given → HasPassed x.posted k.seen passed' → IsEndOf n y (record k { head = head }) at' seen done unseen whole asks passed'
-  end-with y head at' passed' p posted given by = record {
+  end-with : (y : TxDriven) (head : Option ℕ) (at' : DriverPlaces) (passed' : ℕ) → IsPoster n y at' → y.posted ≡ x.posted → y.reaped ≡ x.reaped → HasPassed x.posted k.seen passed' → IsEndOf n y (record k { head = head }) at' seen done unseen whole asks passed'
+  end-with y head at' passed' p posted reaped by = record {
     poster = p;
     seen_is = h.seen_is;
-    done_is = rw (given) h.done_is;
+    done_is = rw (reaped) h.done_is;
     unseen_is = rw (posted) h.unseen_is;
-    few = rw (posted, given) h.few;
+    few = rw (posted, reaped) h.few;
     whole_is = rw (posted) h.whole_is;
     asks_count = h.asks_count;
     asks_are = rw (posted) h.asks_are;
@@ -55,8 +55,8 @@ module _ (n : ℕ) (x : TxDriven) (k : Knowing) (at : DriverPlaces) (seen done u
   }
 
   -- a step that leaves all of this
-  pub end-left : (y : TxDriven) (head : Option ℕ) (at' : DriverPlaces) → IsPoster n y at' → y.posted ≡ x.posted → y.given ≡ x.given → IsEndOf n y (record k { head = head }) at' seen done unseen whole asks passed
-  end-left y head at' p posted given = end-with y head at' passed p posted given h.passed_by
+  pub end-left : (y : TxDriven) (head : Option ℕ) (at' : DriverPlaces) → IsPoster n y at' → y.posted ≡ x.posted → y.reaped ≡ x.reaped → IsEndOf n y (record k { head = head }) at' seen done unseen whole asks passed
+  end-left y head at' p posted reaped = end-with y head at' passed p posted reaped h.passed_by
 
   pub end-shaken : (step : HandshakeStep) (w : ℕ) → MayShake step x.state → IsEndOf n (record x { state = shaken step x.state w }) k (record at { state = shaken step at.state w }) seen done unseen whole asks passed
   end-shaken step w may = end-left (record x { state = shaken step x.state w }) k.head (record at { state = shaken step at.state w }) (poster-shaken n x at h.poster step w may) refl refl
@@ -67,7 +67,7 @@ module _ (n : ℕ) (x : TxDriven) (k : Knowing) (at : DriverPlaces) (seen done u
   pub end-same : (head : Option ℕ) → IsEndOf n x (record k { head = head }) at seen done unseen whole asks passed
   end-same head = end-left x head at h.poster refl refl
 
-  pub end-post : (p : Posting) (fill : ℕ) → is_open x.state ≡ true → length x.posted + 1 < length x.given + x.reclaimed + n → fill ≡ (if (at.fill + 1) == n then 0 else (at.fill + 1))
+  pub end-post : (p : Posting) (fill : ℕ) → is_open x.state ≡ true → length x.posted + 1 < length x.reaped + x.reclaimed + n → fill ≡ (if (at.fill + 1) == n then 0 else (at.fill + 1))
       → IsEndOf n (record x { posted = x.posted ++ p ∷ [] }) k (record at { fill = fill; out = at.out + 1 }) seen done (unseen + 1) p.eop (slice_set asks at.fill p.rs) passed
   end-post p fill opened room f = let e = length-append x.posted (p ∷ []) in let g : 8 ≤ n = h.lawful.0 in let u = h.unreclaimed (open_unanswered x.state opened) in let di = h.done_is in let ui = h.unseen_is in record {
     poster = poster-post n x at h.poster p fill room f;
@@ -81,10 +81,10 @@ module _ (n : ℕ) (x : TxDriven) (k : Knowing) (at : DriverPlaces) (seen done u
     passed_by = passed-snoc x.posted p k.seen passed h.passed_by;
   }
 
-  pub end-clean : (b next : ℕ) → length x.given < k.seen → is_live x.state ≡ true → next ≡ (if (at.next + 1) == n then 0 else (at.next + 1))
-      → IsEndOf n (record x { given = x.given ++ b ∷ [] }) k (record at { next = next; out = at.out - 1 }) seen (done - 1) unseen whole asks passed
-  end-clean b next below live f = let e = length-append x.given (b ∷ []) in let o = h.out_is in let di = h.done_is in let ui = h.unseen_is in let u = h.unreclaimed (live_unanswered x.state live) in let fw = h.few in record {
-    poster = poster-back n x at h.poster (record x { given = x.given ++ b ∷ [] }) next refl refl (omega arith) h.unreclaimed (omega arith) f;
+  pub end-clean : (b next : ℕ) → length x.reaped < k.seen → is_live x.state ≡ true → next ≡ (if (at.next + 1) == n then 0 else (at.next + 1))
+      → IsEndOf n (record x { reaped = x.reaped ++ b ∷ [] }) k (record at { next = next; out = at.out - 1 }) seen (done - 1) unseen whole asks passed
+  end-clean b next below live f = let e = length-append x.reaped (b ∷ []) in let o = h.out_is in let di = h.done_is in let ui = h.unseen_is in let u = h.unreclaimed (live_unanswered x.state live) in let fw = h.few in record {
+    poster = poster-back n x at h.poster (record x { reaped = x.reaped ++ b ∷ [] }) next refl refl (omega arith) h.unreclaimed (omega arith) f;
     seen_is = h.seen_is;
     done_is = omega arith;
     unseen_is = h.unseen_is;
@@ -118,7 +118,7 @@ end-shake d new at seen done unseen whole asks passed step w is may h = end-as d
     (end-shaken (driver_size d) (driver_record d) (known_of d) at seen done unseen whole asks passed h step w may)
 
 -- an epoch in which nothing is done
-pub end-anew : (n published : ℕ) (asks : List Bool) → IsRingLength n → length asks ≡ n → IsEndOf n (record { posted = []; published = published; given = []; reclaimed = 0; state = New }) unknown (anew n) 0 0 0 true asks 0
+pub end-anew : (n published : ℕ) (asks : List Bool) → IsRingLength n → length asks ≡ n → IsEndOf n (record { posted = []; published = published; reaped = []; reclaimed = 0; state = New }) unknown (anew n) 0 0 0 true asks 0
 end-anew n published asks lawful count = let g : 8 ≤ n = lawful.0 in record {
   poster = poster-anew n published lawful;
   seen_is = sym (zero-mod n);

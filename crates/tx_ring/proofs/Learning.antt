@@ -5,7 +5,7 @@ use Rattle.ring_model.specs.declared.steps.TxStep.{TxStep}
 use Rattle.ring_model.specs.shared.Handshakes.{is_stopped}
 use Rattle.ring_model.specs.shared.Frames.{Bytes}
 use Rattle.ring_model.specs.shared.Laws.{SameEpoch}
-use Rattle.ring_model.specs.transmit.Laws.{TxLater, tx_over}
+use Rattle.ring_model.specs.transmit.Laws.{TxLater, tx_quiesced}
 use Rattle.ring_model.specs.transmit.Ring.{TxRing, ends_posting}
 use Rattle.ring_model.specs.transmit.Steps.{tx_can, tx_changed}
 use Rattle.ring_model.specs.kept.Transmit.{IsTxKept}
@@ -22,14 +22,14 @@ knowing-snoc es e = shared.knowing-snoc posting_of drive_own saw_head know_own u
 
 module _ (n : ℕ) (q : TxRing Bytes) (k : IsTxKept Bytes n q) where
   -- no step but a renewal ends the epoch
-  pub same-epoch : (s : TxStep Posting) → tx_can q s ≡ true → (tx_changed q s).past ≡ q.past → SameEpoch q.queue (tx_over q) (tx_changed q s).queue (tx_over (tx_changed q s))
-  same-epoch s may past = within-epoch q.queue (tx_over q) (tx_changed q s).queue (tx_over (tx_changed q s)) (subst (λ (p : TxRing Bytes). TxLater q p) (next-happens tx_can tx_changed q s may) (tx_later-all n q (s ∷ []) k)) past
+  pub same-epoch : (s : TxStep Posting) → tx_can q s ≡ true → (tx_changed q s).past ≡ q.past → SameEpoch q.queue (tx_quiesced q) (tx_changed q s).queue (tx_quiesced (tx_changed q s))
+  same-epoch s may past = within-epoch q.queue (tx_quiesced q) (tx_changed q s).queue (tx_quiesced (tx_changed q s)) (subst (λ (p : TxRing Bytes). TxLater q p) (next-happens tx_can tx_changed q s may) (tx_later-all n q (s ∷ []) k)) past
 
   module _ (x : Knowing) (l : Learnt n q x) where
     -- a step within the epoch that shows no report
     pub learnt-step : (s : TxStep Posting) → tx_can q s ≡ true → (tx_changed q s).past ≡ q.past → (tx_changed q s).seen_reported ≡ q.seen_reported → Learnt n (tx_changed q s) x
     learnt-step s may past seen = let e = same-epoch s may past in record {
-      head = λ place f. let h = l.head place f in let t = e.served (answered-ended n ends_posting q.queue k.queue h.0) in let g = e.given h.0 in (g.1, h.1 ∙ ap (λ (xs : List Posting). length xs % n) (sym t.0));
+      head = λ place f. let h = l.head place f in let t = e.completed (answered-ended n ends_posting q.queue k.queue h.0) in let g = e.reaped h.0 in (g.1, h.1 ∙ ap (λ (xs : List Posting). length xs % n) (sym t.0));
       seen = l.seen ∙ sym seen;
     }
 

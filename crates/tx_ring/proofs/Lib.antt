@@ -1,6 +1,6 @@
 pub mod Words
 pub mod Learning
-pub mod Lying
+pub mod Placing
 pub mod Moving
 pub mod Reporting
 pub mod Reported

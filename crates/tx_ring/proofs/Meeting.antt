@@ -3,13 +3,13 @@ use Rattle.std.proofs.Common.{◌≡◌, ℕ, ◌+◌, ◌-◌, ◌%◌, ◌<◌
 use Rattle.ring_model.specs.transmit.Ring.{TxLedger, ends_posting}
 use Rattle.ring_model.specs.transmit.Lawful.{IsLawfulTxLedger}
 use Rattle.ring_model.specs.shared.Frames.{Bytes}
-use Rattle.ring_model.specs.shared.Queue.{posted_count, served_count}
+use Rattle.ring_model.specs.shared.Queue.{posted_count, completed_count}
 use Rattle.ring_model.specs.kept.Transmit.{IsTxKept}
 use Rattle.ring_laws.specs.Rings.{tx_kept, tx_concluded}
 use Rattle.ring_laws.specs.Places.{ahead}
 use Rattle.tx_ring.specs.Records.{Posting, TxDriven}
-use Rattle.shared_ring.proofs.Meeting.{served-is}
-use Rattle.tx_ring.specs.Rule.{says, lies_there}
+use Rattle.shared_ring.proofs.Meeting.{completed-is}
+use Rattle.tx_ring.specs.Rule.{word_of_item, buffer_of_item}
 use Rattle.tx_ring.specs.Ends.{DriverSide, driver_size, posted, cleaned, known_of, ControllerSide}
 use Rattle.tx_ring.specs.Meeting.{ledger_of, sent_now, left_by, left_at, told_left, IsTold, Met}
 
@@ -17,12 +17,12 @@ module _ (d : DriverSide) (c : ControllerSide) (m : Met d c) (same : c.table ≡
   kept : IsTxKept Bytes (driver_size d) m.queue
   kept = tx_kept (driver_size d) m.queue big m.reachable
 
-  pub sent-is : sent_now d c ≡ m.queue.ledger.served
-  sent-is = let k = kept in served-is (says m.queue) lies_there ends_posting (driver_size d) m.queue.queue k.queue m.queue.owed d c same m.driver m.controller
+  pub sent-is : sent_now d c ≡ m.queue.ledger.completed
+  sent-is = let k = kept in completed-is (word_of_item m.queue) buffer_of_item ends_posting (driver_size d) m.queue.queue k.queue m.queue.owed d c same m.driver m.controller
 
   ledger-is : ledger_of d c ≡ m.queue.ledger
-  ledger-is = ap (λ (x : TxDriven). let l : TxLedger Bytes = record { posted = x.posted; served = sent_now d c; given = x.given } in l) m.driver
-      ∙ ap (λ (xs : List Posting). let l : TxLedger Bytes = record { posted = m.queue.ledger.posted; served = xs; given = m.queue.ledger.given } in l) sent-is
+  ledger-is = ap (λ (x : TxDriven). let l : TxLedger Bytes = record { posted = x.posted; completed = sent_now d c; reaped = x.reaped } in l) m.driver
+      ∙ ap (λ (xs : List Posting). let l : TxLedger Bytes = record { posted = m.queue.ledger.posted; completed = xs; reaped = m.queue.ledger.reaped } in l) sent-is
 
   pub met-lawful : IsLawfulTxLedger Bytes (driver_size d) (ledger_of d c)
   met-lawful = let a = m.lawful in let e = a.ledger in let f = m.driver in
@@ -31,10 +31,10 @@ module _ (d : DriverSide) (c : ControllerSide) (m : Met d c) (same : c.table ≡
 
   -- what was learnt of the head
   pub met-left : (head : ℕ) → (known_of d).head ≡ Some head → length (posted d) ≡ length (sent_now d c) + left_by d head
-  met-left head e = let l = m.learnt in let h = l.head head e in let k = kept in let o = k.queue.order in let gs = o.given_served in let sp = o.served_posted in let r = o.room in
-      let t : length (posted d) ≡ posted_count m.queue.queue = ap (λ (x : TxDriven). length x.posted) m.driver in let s : length (sent_now d c) ≡ served_count m.queue.queue = ap length sent-is in
-      let a = ahead (driver_size d) (served_count m.queue.queue) (posted_count m.queue.queue) (omega arith) sp (omega arith) in
-      let b : left_by d head ≡ (posted_count m.queue.queue % driver_size d + driver_size d - served_count m.queue.queue % driver_size d) % driver_size d =
+  met-left head e = let l = m.learnt in let h = l.head head e in let k = kept in let o = k.queue.order in let gs = o.reaped_completed in let sp = o.completed_posted in let r = o.room in
+      let t : length (posted d) ≡ posted_count m.queue.queue = ap (λ (x : TxDriven). length x.posted) m.driver in let s : length (sent_now d c) ≡ completed_count m.queue.queue = ap length sent-is in
+      let a = ahead (driver_size d) (completed_count m.queue.queue) (posted_count m.queue.queue) (omega arith) sp (omega arith) in
+      let b : left_by d head ≡ (posted_count m.queue.queue % driver_size d + driver_size d - completed_count m.queue.queue % driver_size d) % driver_size d =
       ap (λ (x : ℕ). (x % driver_size d + driver_size d - head) % driver_size d) t ∙ ap (λ (x : ℕ). (posted_count m.queue.queue % driver_size d + driver_size d - x) % driver_size d) h.1 in
       omega arith
 
@@ -48,4 +48,4 @@ module _ (d : DriverSide) (c : ControllerSide) (m : Met d c) (same : c.table ≡
   -- where all that was posted is cleaned, all was sent
   pub met-all : length (posted d) ≤ length (cleaned d) → sent_now d c ≡ posted d
   met-all h = let k = kept in let t = tx_concluded (driver_size d) m.queue k in
-      sent-is ∙ t.all_sent (subst (λ (x : TxDriven). length x.posted ≤ length x.given) m.driver h) ∙ sym (ap (λ (x : TxDriven). x.posted) m.driver)
+      sent-is ∙ t.all_sent (subst (λ (x : TxDriven). length x.posted ≤ length x.reaped) m.driver h) ∙ sym (ap (λ (x : TxDriven). x.posted) m.driver)

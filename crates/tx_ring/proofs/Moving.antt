@@ -14,7 +14,7 @@ use Rattle.ring_model.specs.declared.steps.ControlStep.TheVariants.{AskEnable, L
 use Rattle.ring_model.specs.declared.steps.TxStep.TheVariants as tx
 use Rattle.ring_model.specs.shared.Handshakes.{is_open, is_live, is_serving, is_new, is_on, is_stopped, is_cleared, is_tailed, can_enable, can_disable, enable, disable}
 use Rattle.ring_model.specs.shared.Frames.{Bytes, unfinished}
-use Rattle.ring_model.specs.shared.Queue.{posted_count, served_count, given_count, returned_count, by}
+use Rattle.ring_model.specs.shared.Queue.{posted_count, completed_count, reaped_count, returned_count, by}
 use Rattle.ring_model.specs.shared.QueueSteps as queue
 use Rattle.ring_model.specs.transmit.Frames.{MayFollow}
 use Rattle.ring_model.specs.transmit.Ring.{TxRing, are_whole, carried, ends_posting, next_sent, next_posting}
@@ -25,19 +25,19 @@ use Rattle.ring_laws.specs.Rings.{seen_sent}
 use Rattle.ring_laws.specs.Frames.{AllMayFollow-nil, AllMayFollow-snoc}
 use Rattle.ring_laws.specs.Lists.{slice_get-front}
 use Rattle.ring_laws.specs.States.{live_unanswered, tailed_emptied, emptied_answered, shakes-enable}
-use Rattle.ring_laws.specs.Queues.{held_below, answered_over, answered_idle, shook, returned_served}
+use Rattle.ring_laws.specs.Queues.{held_below, answered_has_ended, answered_idle, shook, returned_completed}
 use Rattle.ring_model.proofs.shared.Stepping.{kept-by}
 use Rattle.shared_ring.specs.declared.events.DriverEvent.TheVariants as driver
-use Rattle.shared_ring.specs.Lies.{driven, is_early, IsControlled, LiesIn}
-use Rattle.shared_ring.proofs.Lying.{lies-post, lies-publish, lies-give, lies-reclaim, lies-ask_enable, lies-ask_disable, lies-look_answered, lies-clear_head, lies-clear_tail, lies-look, lies-fetch, lies-serve, lies-head, lies-look_asked, lies-enable, lies-disable}
-use Rattle.shared_ring.proofs.Controlling.{ctl-post, ctl-publish, ctl-give, ctl-reclaim, ctl-ask_enable, ctl-look_answered, ctl-ask_disable, ctl-clear_head, ctl-clear_tail, ctl-renew, ctl-look, ctl-fetch, ctl-serve, ctl-head, ctl-look_asked, ctl-enable, ctl-disable}
+use Rattle.shared_ring.specs.LaidOut.{driven, is_early, IsControlled, IsLaidOutIn}
+use Rattle.shared_ring.proofs.Placing.{laid_out-post, laid_out-publish, laid_out-reap, laid_out-reclaim, laid_out-ask_enable, laid_out-ask_disable, laid_out-look_answered, laid_out-clear_head, laid_out-clear_tail, laid_out-look, laid_out-fetch, laid_out-complete, laid_out-head, laid_out-look_asked, laid_out-enable, laid_out-disable}
+use Rattle.shared_ring.proofs.Controlling.{ctl-post, ctl-publish, ctl-reap, ctl-reclaim, ctl-ask_enable, ctl-look_answered, ctl-ask_disable, ctl-clear_head, ctl-clear_tail, ctl-renew, ctl-look, ctl-fetch, ctl-complete, ctl-head, ctl-look_asked, ctl-enable, ctl-disable}
 use Rattle.tx_ring.specs.declared.events.TxDriverOwn.TheVariants.{NoReport, SawReport, Cleaned, EndedEpoch, ClearedReport}
 use Rattle.tx_ring.specs.Records.{Posting, TxDriven, TxControlled, DriverStep, ControllerStep, controlling, drive, know, Knowing, knowing, outstanding, seen_after, fetched_word, control, fetch_word, posting_of}
 use Rattle.shared_ring.specs.Tables.{words_of}
-use Rattle.tx_ring.specs.Rule.{LiesAs, Learnt, IsFetched, IsReady, TellsReports, filled, says, lies_there, word_of}
+use Rattle.tx_ring.specs.Rule.{IsLaidOutAs, Learnt, IsFetched, IsReady, TellsReports, filled, word_of_item, buffer_of_item, word_of}
 use Rattle.tx_ring.proofs.Words.{posting-posted, rs_of-tx_word}
 use Rattle.tx_ring.proofs.Learning.{learnt-step, learnt-head, learnt-report, learnt-unknown}
-use Rattle.tx_ring.proofs.Lying.{keeps_it, big, goes_on, drove, knows_is, unreclaimed, untold, lies-beyond, reports-else, head-within, controlled-else, Leaves, driver-goes, control_is, fetched-snoc}
+use Rattle.tx_ring.proofs.Placing.{keeps_it, big, goes_on, drove, knows_is, unreclaimed, untold, laid_out-beyond, reports-else, head-within, controlled-else, Leaves, driver-goes, control_is, fetched-snoc}
 use Rattle.shared_ring.specs.declared.events.ControllerEvent.TheVariants as controller
 use Rattle.shared_ring.proofs.Laying.{set-same}
 use Rattle.shared_ring.proofs.Shaking.{early_enabling}
@@ -56,7 +56,7 @@ either-way : {A X : Type 0} (f : Option A → X) (x : X) → f None ≡ x → ((
 either-way f x nothing each None = nothing
 either-way f x nothing each (Some y) = each y
 
-module _ (n : ℕ) (mode : Completion) (q : TxRing Bytes) (ds : List DriverStep) (cs : List ControllerStep) (words : List ℕ) (homes : List (maybe.Option Buffer)) (pos : 1 < n) (l : LiesAs n mode q ds cs words homes) where
+module _ (n : ℕ) (mode : Completion) (q : TxRing Bytes) (ds : List DriverStep) (cs : List ControllerStep) (words : List ℕ) (homes : List (maybe.Option Buffer)) (pos : 1 < n) (l : IsLaidOutAs n mode q ds cs words homes) where
   abbrev k : IsTxKept Bytes n q
   k = keeps_it n mode q ds cs words homes pos l
 
@@ -74,30 +74,30 @@ module _ (n : ℕ) (mode : Completion) (q : TxRing Bytes) (ds : List DriverStep)
   place-else p i v at = reports-else n mode q.reported words p v (λ e. let b : i % n < n = mod-lt i (omega arith) in omega arith) l.reports
 
   -- B1
-  pub can-post : is_open q.handshake.driver ≡ true → posted_count q.queue + 1 < given_count q.queue + n → (p : Posting) → tx_can q (tx.Post p) ≡ true
-  can-post opened room p = let e = k.queue.size_is in let o = k.queue.order in let ts = o.given_served in let sp = o.served_posted in
-      and_from _ _ opened (lt-ltb (posted_count q.queue - given_count q.queue) (q.size - 1) (omega arith))
+  pub can-post : is_open q.handshake.driver ≡ true → posted_count q.queue + 1 < reaped_count q.queue + n → (p : Posting) → tx_can q (tx.Post p) ≡ true
+  can-post opened room p = let e = k.queue.size_is in let o = k.queue.order in let ts = o.reaped_completed in let sp = o.completed_posted in
+      and_from _ _ opened (lt-ltb (posted_count q.queue - reaped_count q.queue) (q.size - 1) (omega arith))
 
-  word-posted : (p : Posting) → says q (posted_count q.queue) (Some p) None ≡ word_of p
-  word-posted p = let o = k.queue.order in let r = k.reports in let a = r.reported_sent in let b = o.served_posted in
+  word-posted : (p : Posting) → word_of_item q (posted_count q.queue) (Some p) None ≡ word_of p
+  word-posted p = let o = k.queue.order in let r = k.reports in let a = r.reported_sent in let b = o.completed_posted in
       ap (λ (t : Bool). posting_word length filled t p) (untold q (posted_count q.queue) (omega arith))
 
-  fetched-post : (p : Posting) → IsFetched (fetched_word cs) q.held (q.ledger.posted ++ p ∷ []) q.ledger.served
-  fetched-post p y held there = l.fetched y held (sym (slice_get-front q.ledger.posted (p ∷ []) (served_count q.queue) (held_below n ends_posting q.queue k.queue held)) ∙ there)
+  fetched-post : (p : Posting) → IsFetched (fetched_word cs) q.held (q.ledger.posted ++ p ∷ []) q.ledger.completed
+  fetched-post p y held there = l.fetched y held (sym (slice_get-front q.ledger.posted (p ∷ []) (completed_count q.queue) (held_below n ends_posting q.queue k.queue held)) ∙ there)
 
   ready-post : (p : Posting) → IsReady (is_serving q.handshake.controller) q.known (q.ledger.posted ++ p ∷ [])
   ready-post p serving = let o = k.queue.order in let a = o.known_published serving in let b = o.published_posted in
       ap are_whole (take-append-le q.known q.ledger.posted (p ∷ []) (omega arith)) ∙ l.ready serving
 
-  pub post-lies : (p : Posting) (at : ℕ) → at ≡ posted_count q.queue % n → is_open q.handshake.driver ≡ true → posted_count q.queue + 1 < given_count q.queue + n → MayFollow n (unfinished carried q.ledger.posted) p
-      → LiesAs n mode (tx_changed q (tx.Post p)) (ds ++ driver.Posted at (word_of p) (filled p) ∷ []) cs (slice_set words at (word_of p)) (set homes at (some (filled p)))
-  post-lies p at is opened room follows = let can = can-post opened room p in let f = follows.follows in record {
+  pub post-laid_out : (p : Posting) (at : ℕ) → at ≡ posted_count q.queue % n → is_open q.handshake.driver ≡ true → posted_count q.queue + 1 < reaped_count q.queue + n → MayFollow n (unfinished carried q.ledger.posted) p
+      → IsLaidOutAs n mode (tx_changed q (tx.Post p)) (ds ++ driver.Posted at (word_of p) (filled p) ∷ []) cs (slice_set words at (word_of p)) (set homes at (some (filled p)))
+  post-laid_out p at is opened room follows = let can = can-post opened room p in let f = follows.follows in record {
     reachable = goes_on n mode q ds cs words homes pos l (tx.Post p) can;
     completion = l.completion;
     driver = drove n mode q ds cs words homes pos l (driver.Posted at (word_of p) (filled p))
         ∙ ap (λ (y : Posting). let d : TxDriven = record (driven q.queue) { posted = q.ledger.posted ++ y ∷ [] } in d) (posting-posted p f.few_bytes);
-    controller = ctl-post (says q) lies_there ends_posting n q.queue k.queue q.owed c l.controller p;
-    lies = lies-post (says q) lies_there ends_posting n (words_of n mode) q.queue k.queue 0 words homes l.lies wide p (filled p) (word_of p) at is can (word-posted p) refl;
+    controller = ctl-post (word_of_item q) buffer_of_item ends_posting n q.queue k.queue q.owed c l.controller p;
+    laid_out = laid_out-post (word_of_item q) buffer_of_item ends_posting n (words_of n mode) q.queue k.queue 0 words homes l.laid_out wide p (filled p) (word_of p) at is can (word-posted p) refl;
     reports = place-else at (posted_count q.queue) (word_of p) is;
     fetched = fetched-post p;
     ready = ready-post p;
@@ -106,21 +106,21 @@ module _ (n : ℕ) (mode : Completion) (q : TxRing Bytes) (ds : List DriverStep)
   }
 
   -- B2
-  pub publish-lies : (t : ℕ) → t ≡ posted_count q.queue % n → is_open q.handshake.driver ≡ true → are_whole q.ledger.posted ≡ true → LiesAs n mode (tx_changed q tx.Publish) (ds ++ driver.Published t ∷ []) cs (slice_set words (n + 1) t) homes
-  publish-lies t at opened whole = driver-goes n mode q ds cs words homes pos l tx.Publish (driver.Published t) (slice_set words (n + 1) t) homes (and_from _ _ opened whole) refl refl (refl, refl, refl, refl, refl, refl, refl, refl, refl)
-      (ctl-publish (says q) lies_there ends_posting n q.queue k.queue q.owed c l.controller)
-      (lies-publish (says q) lies_there ends_posting n (words_of n mode) q.queue k.queue 0 words homes l.lies wide t at)
+  pub publish-laid_out : (t : ℕ) → t ≡ posted_count q.queue % n → is_open q.handshake.driver ≡ true → are_whole q.ledger.posted ≡ true → IsLaidOutAs n mode (tx_changed q tx.Publish) (ds ++ driver.Published t ∷ []) cs (slice_set words (n + 1) t) homes
+  publish-laid_out t at opened whole = driver-goes n mode q ds cs words homes pos l tx.Publish (driver.Published t) (slice_set words (n + 1) t) homes (and_from _ _ opened whole) refl refl (refl, refl, refl, refl, refl, refl, refl, refl, refl)
+      (ctl-publish (word_of_item q) buffer_of_item ends_posting n q.queue k.queue q.owed c l.controller)
+      (laid_out-publish (word_of_item q) buffer_of_item ends_posting n (words_of n mode) q.queue k.queue 0 words homes l.laid_out wide t at)
       (reports-else n mode q.reported words (n + 1) t (λ e. omega arith) l.reports)
 
   -- a load of the driver's that leaves words and slots, and changes of the ring at most what is seen
   loaded : (seen : ℕ) (e : DriverStep) → drive (driven q.queue) e ≡ driven q.queue → IsTxReachable Bytes n (record q { seen_reported = seen }) → Learnt n (record q { seen_reported = seen }) (know (driven q.queue) x e)
-      → LiesAs n mode (record q { seen_reported = seen }) (ds ++ e ∷ []) cs words homes
+      → IsLaidOutAs n mode (record q { seen_reported = seen }) (ds ++ e ∷ []) cs words homes
   loaded seen e same reached learns = record {
     reachable = reached;
     completion = l.completion;
     driver = drove n mode q ds cs words homes pos l e ∙ same;
     controller = l.controller;
-    lies = l.lies;
+    laid_out = l.laid_out;
     reports = l.reports;
     fetched = l.fetched;
     ready = l.ready;
@@ -129,15 +129,15 @@ module _ (n : ℕ) (mode : Completion) (q : TxRing Bytes) (ds : List DriverStep)
   }
 
   -- B7, that shows nothing
-  pub no_report-lies : (p r : ℕ) → LiesAs n mode q (ds ++ driver.Own (NoReport p r) ∷ []) cs words homes
-  no_report-lies p r = loaded q.seen_reported (driver.Own (NoReport p r)) refl l.reachable l.learnt
+  pub no_report-laid_out : (p r : ℕ) → IsLaidOutAs n mode q (ds ++ driver.Own (NoReport p r) ∷ []) cs words homes
+  no_report-laid_out p r = loaded q.seen_reported (driver.Own (NoReport p r)) refl l.reachable l.learnt
 
   -- B7, that shows the report
   saw-knows : (j : ℕ) → oldest_report q ≡ Some j → seen_after x (outstanding (driven q.queue) x.seen) ≡ record x { seen = j + 1 }
   saw-knows j is = let s = l.learnt.seen in ap (λ (m : ℕ). seen_after x (outstanding (driven q.queue) m)) s ∙ ap (λ (o : Option ℕ). seen_after x o) is
 
-  pub saw_report-lies : (j p r : ℕ) → oldest_report q ≡ Some j → is_live q.handshake.driver ≡ true → j < q.reported → LiesAs n mode (record q { seen_reported = j + 1 }) (ds ++ driver.Own (SawReport p r) ∷ []) cs words homes
-  saw_report-lies j p r is live below = let later : TxRing Bytes = record q { seen_reported = j + 1 } in
+  pub saw_report-laid_out : (j p r : ℕ) → oldest_report q ≡ Some j → is_live q.handshake.driver ≡ true → j < q.reported → IsLaidOutAs n mode (record q { seen_reported = j + 1 }) (ds ++ driver.Own (SawReport p r) ∷ []) cs words homes
+  saw_report-laid_out j p r is live below = let later : TxRing Bytes = record q { seen_reported = j + 1 } in
       loaded (j + 1) (driver.Own (SawReport p r)) refl
       (subst (λ (b : Bool). IsTxReachable Bytes n (if b then record q { seen_reported = j + 1 } else q)) (lt-ltb j q.reported below)
       (subst (λ (o : Option ℕ). IsTxReachable Bytes n (loaded_report q o)) is (goes_on n mode q ds cs words homes pos l tx.LoadReport (and_from _ _ live (ap is_there is)))))
@@ -150,15 +150,15 @@ module _ (n : ℕ) (mode : Completion) (q : TxRing Bytes) (ds : List DriverStep)
   cleaned-seen : (o : Option Posting) → (cleaned_one q o).seen_reported ≡ q.seen_reported
   cleaned-seen = either-way (λ o. (cleaned_one q o).seen_reported) q.seen_reported refl (λ y. refl)
 
-  pub clean-lies : (p : Posting) (at : ℕ) → next_sent q ≡ Some p → at ≡ returned_count q.queue % n → is_live q.handshake.driver ≡ true → given_count q.queue < q.seen_reported
-      → LiesAs n mode (cleaned_one q (Some p)) (ds ++ driver.Own (Cleaned at (filled p)) ∷ []) cs (slice_set words at 0) (set homes at none)
-  clean-lies p at is place live below = let o = k.queue.order in let un = unreclaimed n mode q ds cs words homes pos l (live_unanswered q.handshake.driver live) in let sent = seen_sent n q k in let sp = o.served_posted in
-      let can = and_from _ _ live (lt-ltb (given_count q.queue) q.seen_reported below) in record {
+  pub clean-laid_out : (p : Posting) (at : ℕ) → next_sent q ≡ Some p → at ≡ returned_count q.queue % n → is_live q.handshake.driver ≡ true → reaped_count q.queue < q.seen_reported
+      → IsLaidOutAs n mode (cleaned_one q (Some p)) (ds ++ driver.Own (Cleaned at (filled p)) ∷ []) cs (slice_set words at 0) (set homes at none)
+  clean-laid_out p at is place live below = let o = k.queue.order in let un = unreclaimed n mode q ds cs words homes pos l (live_unanswered q.handshake.driver live) in let sent = seen_sent n q k in let sp = o.completed_posted in
+      let can = and_from _ _ live (lt-ltb (reaped_count q.queue) q.seen_reported below) in record {
         reachable = subst (λ (o : Option Posting). IsTxReachable Bytes n (cleaned_one q o)) is (goes_on n mode q ds cs words homes pos l tx.Clean can);
         completion = l.completion;
         driver = drove n mode q ds cs words homes pos l (driver.Own (Cleaned at (filled p)));
-        controller = ctl-give (says q) lies_there ends_posting n q.queue k.queue q.owed c l.controller p.number;
-        lies = lies-give (says q) lies_there ends_posting n (words_of n mode) q.queue k.queue 0 words homes l.lies wide p.number 0 at place (omega arith);
+        controller = ctl-reap (word_of_item q) buffer_of_item ends_posting n q.queue k.queue q.owed c l.controller p.number;
+        laid_out = laid_out-reap (word_of_item q) buffer_of_item ends_posting n (words_of n mode) q.queue k.queue 0 words homes l.laid_out wide p.number 0 at place (omega arith);
         reports = place-else at (returned_count q.queue) 0 place;
         fetched = l.fetched;
         ready = l.ready;
@@ -168,50 +168,50 @@ module _ (n : ℕ) (mode : Completion) (q : TxRing Bytes) (ds : List DriverStep)
       }
 
   -- the driver's load of the head
-  pub head_loaded-lies : (r : ℕ) → r ≡ q.head → is_stopped q.handshake.driver ≡ true → LiesAs n mode q (ds ++ driver.LoadedHead r ∷ []) cs words homes
-  head_loaded-lies r e stopped = loaded q.seen_reported (driver.LoadedHead r) refl l.reachable (learnt-head n q k x l.learnt r stopped e)
+  pub head_loaded-laid_out : (r : ℕ) → r ≡ q.head → is_stopped q.handshake.driver ≡ true → IsLaidOutAs n mode q (ds ++ driver.LoadedHead r ∷ []) cs words homes
+  head_loaded-laid_out r e stopped = loaded q.seen_reported (driver.LoadedHead r) refl l.reachable (learnt-head n q k x l.learnt r stopped e)
 
   -- C1
-  pub ask_enable-lies : is_new q.handshake.driver ≡ true → LiesAs n mode (tx_changed q (tx.Control AskEnable)) (ds ++ driver.AskedEnable ∷ []) cs (slice_set words (n + 2) 1) homes
-  ask_enable-lies new = driver-goes n mode q ds cs words homes pos l (tx.Control AskEnable) driver.AskedEnable (slice_set words (n + 2) 1) homes new refl refl (refl, refl, refl, refl, refl, refl, refl, refl, refl)
-      (ctl-ask_enable (says q) lies_there ends_posting n q.queue k.queue q.owed c l.controller (tx_settled q) new)
-      (lies-ask_enable (says q) lies_there ends_posting n (words_of n mode) q.queue k.queue 0 words homes l.lies wide (tx_settled q) new)
+  pub ask_enable-laid_out : is_new q.handshake.driver ≡ true → IsLaidOutAs n mode (tx_changed q (tx.Control AskEnable)) (ds ++ driver.AskedEnable ∷ []) cs (slice_set words (n + 2) 1) homes
+  ask_enable-laid_out new = driver-goes n mode q ds cs words homes pos l (tx.Control AskEnable) driver.AskedEnable (slice_set words (n + 2) 1) homes new refl refl (refl, refl, refl, refl, refl, refl, refl, refl, refl)
+      (ctl-ask_enable (word_of_item q) buffer_of_item ends_posting n q.queue k.queue q.owed c l.controller (tx_settled q) new)
+      (laid_out-ask_enable (word_of_item q) buffer_of_item ends_posting n (words_of n mode) q.queue k.queue 0 words homes l.laid_out wide (tx_settled q) new)
       (reports-else n mode q.reported words (n + 2) 1 (λ e. omega arith) l.reports)
 
   -- C4
-  pub look_answered-lies : (r : ℕ) → r ≡ q.handshake.control → LiesAs n mode (tx_changed q (tx.Control LookAnswered)) (ds ++ driver.LoadedControl r ∷ []) cs words homes
-  look_answered-lies r e = driver-goes n mode q ds cs words homes pos l (tx.Control LookAnswered) (driver.LoadedControl r) words homes refl
+  pub look_answered-laid_out : (r : ℕ) → r ≡ q.handshake.control → IsLaidOutAs n mode (tx_changed q (tx.Control LookAnswered)) (ds ++ driver.LoadedControl r ∷ []) cs words homes
+  look_answered-laid_out r e = driver-goes n mode q ds cs words homes pos l (tx.Control LookAnswered) (driver.LoadedControl r) words homes refl
       (ap (λ (v : ℕ). drive (driven q.queue) (driver.LoadedControl v)) e) refl (refl, refl, refl, refl, refl, refl, refl, refl, refl)
-      (ctl-look_answered (says q) lies_there ends_posting n q.queue k.queue q.owed c l.controller (tx_settled q))
-      (lies-look_answered (says q) lies_there ends_posting n (words_of n mode) q.queue k.queue 0 words homes l.lies wide (tx_settled q))
+      (ctl-look_answered (word_of_item q) buffer_of_item ends_posting n q.queue k.queue q.owed c l.controller (tx_settled q))
+      (laid_out-look_answered (word_of_item q) buffer_of_item ends_posting n (words_of n mode) q.queue k.queue 0 words homes l.laid_out wide (tx_settled q))
       l.reports
 
   -- C5
-  pub ask_disable-lies : is_on q.handshake.driver ≡ true → LiesAs n mode (tx_changed q (tx.Control AskDisable)) (ds ++ driver.AskedDisable ∷ []) cs (slice_set words (n + 2) 3) homes
-  ask_disable-lies on = driver-goes n mode q ds cs words homes pos l (tx.Control AskDisable) driver.AskedDisable (slice_set words (n + 2) 3) homes on refl refl (refl, refl, refl, refl, refl, refl, refl, refl, refl)
-      (ctl-ask_disable (says q) lies_there ends_posting n q.queue k.queue q.owed c l.controller (tx_settled q) on)
-      (lies-ask_disable (says q) lies_there ends_posting n (words_of n mode) q.queue k.queue 0 words homes l.lies wide (tx_settled q))
+  pub ask_disable-laid_out : is_on q.handshake.driver ≡ true → IsLaidOutAs n mode (tx_changed q (tx.Control AskDisable)) (ds ++ driver.AskedDisable ∷ []) cs (slice_set words (n + 2) 3) homes
+  ask_disable-laid_out on = driver-goes n mode q ds cs words homes pos l (tx.Control AskDisable) driver.AskedDisable (slice_set words (n + 2) 3) homes on refl refl (refl, refl, refl, refl, refl, refl, refl, refl, refl)
+      (ctl-ask_disable (word_of_item q) buffer_of_item ends_posting n q.queue k.queue q.owed c l.controller (tx_settled q) on)
+      (laid_out-ask_disable (word_of_item q) buffer_of_item ends_posting n (words_of n mode) q.queue k.queue 0 words homes l.laid_out wide (tx_settled q))
       (reports-else n mode q.reported words (n + 2) 3 (λ e. omega arith) l.reports)
 
   -- C6
-  pub reclaim-lies : (b : Buffer) (p : ℕ) → p ≡ returned_count q.queue % n → is_stopped q.handshake.driver ≡ true → returned_count q.queue < posted_count q.queue
-      → LiesAs n mode (tx_changed q tx.Reclaim) (ds ++ driver.Reclaimed p b ∷ []) cs (slice_set words p 0) (set homes p none)
-  reclaim-lies b p at stopped more =
+  pub reclaim-laid_out : (b : Buffer) (p : ℕ) → p ≡ returned_count q.queue % n → is_stopped q.handshake.driver ≡ true → returned_count q.queue < posted_count q.queue
+      → IsLaidOutAs n mode (tx_changed q tx.Reclaim) (ds ++ driver.Reclaimed p b ∷ []) cs (slice_set words p 0) (set homes p none)
+  reclaim-laid_out b p at stopped more =
       driver-goes n mode q ds cs words homes pos l tx.Reclaim (driver.Reclaimed p b) (slice_set words p 0) (set homes p none) (and_from _ _ stopped (lt-ltb (returned_count q.queue) (posted_count q.queue) more)) refl refl (refl, refl, refl, refl, refl, refl, refl, refl, refl)
-      (ctl-reclaim (says q) lies_there ends_posting n q.queue k.queue q.owed c l.controller)
-      (lies-reclaim (says q) lies_there ends_posting n (words_of n mode) q.queue k.queue 0 words homes l.lies wide 0 p at more)
+      (ctl-reclaim (word_of_item q) buffer_of_item ends_posting n q.queue k.queue q.owed c l.controller)
+      (laid_out-reclaim (word_of_item q) buffer_of_item ends_posting n (words_of n mode) q.queue k.queue 0 words homes l.laid_out wide 0 p at more)
       (place-else p (returned_count q.queue) 0 at)
 
   -- C9
-  pub clear_head-lies : is_stopped q.handshake.driver ≡ true → returned_count q.queue ≡ posted_count q.queue → LiesAs n mode (tx_changed q tx.ClearHead) (ds ++ driver.ClearedHead ∷ []) cs (slice_set words n 0) homes
-  clear_head-lies stopped back = driver-goes n mode q ds cs words homes pos l tx.ClearHead driver.ClearedHead (slice_set words n 0) homes (and_from _ _ stopped (eq-eqb (returned_count q.queue) (posted_count q.queue) back)) refl refl (refl, refl, refl, refl, refl, refl, refl, refl, refl)
-      (ctl-clear_head (says q) lies_there ends_posting n q.queue k.queue q.owed c l.controller stopped)
-      (lies-clear_head (says q) lies_there ends_posting n (words_of n mode) q.queue k.queue 0 words homes l.lies wide)
+  pub clear_head-laid_out : is_stopped q.handshake.driver ≡ true → returned_count q.queue ≡ posted_count q.queue → IsLaidOutAs n mode (tx_changed q tx.ClearHead) (ds ++ driver.ClearedHead ∷ []) cs (slice_set words n 0) homes
+  clear_head-laid_out stopped back = driver-goes n mode q ds cs words homes pos l tx.ClearHead driver.ClearedHead (slice_set words n 0) homes (and_from _ _ stopped (eq-eqb (returned_count q.queue) (posted_count q.queue) back)) refl refl (refl, refl, refl, refl, refl, refl, refl, refl, refl)
+      (ctl-clear_head (word_of_item q) buffer_of_item ends_posting n q.queue k.queue q.owed c l.controller stopped)
+      (laid_out-clear_head (word_of_item q) buffer_of_item ends_posting n (words_of n mode) q.queue k.queue 0 words homes l.laid_out wide)
       (reports-else n mode q.reported words n 0 (λ e. omega arith) l.reports)
 
   -- a renewed ring has no items
-  renewed-lies : (p : TxRing Bytes) (ws : List ℕ) → LiesIn {Given = ℕ} (says q) lies_there n (words_of n mode) p.queue 0 ws homes → is_tailed p.handshake.driver ≡ true → LiesIn {Given = ℕ} (says (tx_renewed p)) lies_there n (words_of n mode) (tx_renewed p).queue 0 ws homes
-  renewed-lies p ws m tailed = record {
+  renewed-laid_out : (p : TxRing Bytes) (ws : List ℕ) → IsLaidOutIn {Reaped = ℕ} (word_of_item q) buffer_of_item n (words_of n mode) p.queue 0 ws homes → is_tailed p.handshake.driver ≡ true → IsLaidOutIn {Reaped = ℕ} (word_of_item (tx_renewed p)) buffer_of_item n (words_of n mode) (tx_renewed p).queue 0 ws homes
+  renewed-laid_out p ws m tailed = record {
     word_count = m.word_count;
     slot_count = m.slot_count;
     registers = m.registers;
@@ -220,29 +220,29 @@ module _ (n : ℕ) (mode : Completion) (q : TxRing Bytes) (ds : List DriverStep)
   }
 
   -- C10, where the head word is cleared after it
-  pub clear_tail-lies : by_head mode ≡ true → is_cleared q.handshake.driver ≡ true → LiesAs n mode (tx_cleared q true) (ds ++ driver.ClearedTail ∷ []) cs (slice_set words (n + 1) 0) homes
-  clear_tail-lies more cleared = let is : by_head q.completion ≡ true = ap by_head l.completion ∙ more in subst (λ (b : Bool). LiesAs n mode (tx_cleared q b) (ds ++ driver.ClearedTail ∷ []) cs (slice_set words (n + 1) 0) homes) is
+  pub clear_tail-laid_out : by_head mode ≡ true → is_cleared q.handshake.driver ≡ true → IsLaidOutAs n mode (tx_cleared q true) (ds ++ driver.ClearedTail ∷ []) cs (slice_set words (n + 1) 0) homes
+  clear_tail-laid_out more cleared = let is : by_head q.completion ≡ true = ap by_head l.completion ∙ more in subst (λ (b : Bool). IsLaidOutAs n mode (tx_cleared q b) (ds ++ driver.ClearedTail ∷ []) cs (slice_set words (n + 1) 0) homes) is
       (driver-goes n mode q ds cs words homes pos l tx.ClearTail driver.ClearedTail (slice_set words (n + 1) 0) homes cleared
       (ap (λ (b : Bool). driven (tx_cleared q b).queue) (sym is)) refl
       (subst (λ (b : Bool). Leaves n mode q ds cs words homes pos l (tx_cleared q b)) (sym is) (refl, refl, refl, refl, refl, refl, refl, refl, refl))
-      (subst (λ (b : Bool). IsControlled {Given = ℕ} (says (tx_cleared q b)) lies_there (tx_cleared q b).queue (tx_cleared q b).owed c) (sym is)
-      (ctl-clear_tail (says q) lies_there ends_posting n q.queue k.queue q.owed c l.controller cleared))
-      (subst (λ (b : Bool). LiesIn {Given = ℕ} (says (tx_cleared q b)) lies_there n (words_of n mode) (tx_cleared q b).queue 0 (slice_set words (n + 1) 0) homes) (sym is)
-      (lies-clear_tail (says q) lies_there ends_posting n (words_of n mode) q.queue k.queue 0 words homes l.lies wide cleared))
+      (subst (λ (b : Bool). IsControlled {Reaped = ℕ} (word_of_item (tx_cleared q b)) buffer_of_item (tx_cleared q b).queue (tx_cleared q b).owed c) (sym is)
+      (ctl-clear_tail (word_of_item q) buffer_of_item ends_posting n q.queue k.queue q.owed c l.controller cleared))
+      (subst (λ (b : Bool). IsLaidOutIn {Reaped = ℕ} (word_of_item (tx_cleared q b)) buffer_of_item n (words_of n mode) (tx_cleared q b).queue 0 (slice_set words (n + 1) 0) homes) (sym is)
+      (laid_out-clear_tail (word_of_item q) buffer_of_item ends_posting n (words_of n mode) q.queue k.queue 0 words homes l.laid_out wide cleared))
       (reports-else n mode q.reported words (n + 1) 0 (λ e. omega arith) l.reports))
 
   -- C10, where nothing more is to be cleared: the epoch ends, and what was learnt in it is forgotten
-  pub end_epoch-lies : by_head mode ≡ false → is_cleared q.handshake.driver ≡ true → LiesAs n mode (tx_cleared q false) (ds ++ driver.Own EndedEpoch ∷ []) cs (slice_set words (n + 1) 0) homes
-  end_epoch-lies alone cleared = let is : by_head q.completion ≡ false = ap by_head l.completion ∙ alone in
+  pub end_epoch-laid_out : by_head mode ≡ false → is_cleared q.handshake.driver ≡ true → IsLaidOutAs n mode (tx_cleared q false) (ds ++ driver.Own EndedEpoch ∷ []) cs (slice_set words (n + 1) 0) homes
+  end_epoch-laid_out alone cleared = let is : by_head q.completion ≡ false = ap by_head l.completion ∙ alone in
       let tailed : TxRing Bytes = record q { queue = by q.queue queue.ClearTail } in
       let kept = kept-by n ends_posting q.queue k.queue queue.ClearTail tt cleared in let reach = goes_on n mode q ds cs words homes pos l tx.ClearTail cleared in record {
         reachable = subst (λ (b : Bool). IsTxReachable Bytes n (tx_cleared q b)) is reach;
         completion = l.completion;
         driver = drove n mode q ds cs words homes pos l (driver.Own EndedEpoch);
-        controller = controlled-else (tx_cleared q false).queue (says q) (says (tx_cleared q false)) q.owed c
-            (ctl-renew (says q) lies_there ends_posting n tailed.queue kept q.owed c (ctl-clear_tail (says q) lies_there ends_posting n q.queue k.queue q.owed c l.controller cleared) refl
-            (answered_over n ends_posting tailed.queue kept refl));
-        lies = renewed-lies tailed (slice_set words (n + 1) 0) (lies-clear_tail (says q) lies_there ends_posting n (words_of n mode) q.queue k.queue 0 words homes l.lies wide cleared) refl;
+        controller = controlled-else (tx_cleared q false).queue (word_of_item q) (word_of_item (tx_cleared q false)) q.owed c
+            (ctl-renew (word_of_item q) buffer_of_item ends_posting n tailed.queue kept q.owed c (ctl-clear_tail (word_of_item q) buffer_of_item ends_posting n q.queue k.queue q.owed c l.controller cleared) refl
+            (answered_has_ended n ends_posting tailed.queue kept refl));
+        laid_out = renewed-laid_out tailed (slice_set words (n + 1) 0) (laid_out-clear_tail (word_of_item q) buffer_of_item ends_posting n (words_of n mode) q.queue k.queue 0 words homes l.laid_out wide cleared) refl;
         reports = λ e. absurd (false≢true (sym alone ∙ e));
         fetched = λ p held there. absurd (none-some p there);
         ready = λ serving. absurd (both_ways (is_serving q.handshake.controller) (answered_idle n ends_posting tailed.queue kept refl) serving);
@@ -251,14 +251,14 @@ module _ (n : ℕ) (mode : Completion) (q : TxRing Bytes) (ds : List DriverStep)
       }
 
   -- C12: the epoch ends
-  pub clear_report-lies : by_head mode ≡ true → is_tailed q.handshake.driver ≡ true → LiesAs n mode (tx_renewed q) (ds ++ driver.Own ClearedReport ∷ []) cs (slice_set words (n + 4) 0) homes
-  clear_report-lies more tailed = let is : by_head q.completion ≡ true = ap by_head l.completion ∙ more in let a = emptied_answered q.handshake.driver (tailed_emptied q.handshake.driver tailed) in
-      let m = l.lies in let wc = m.word_count in record {
+  pub clear_report-laid_out : by_head mode ≡ true → is_tailed q.handshake.driver ≡ true → IsLaidOutAs n mode (tx_renewed q) (ds ++ driver.Own ClearedReport ∷ []) cs (slice_set words (n + 4) 0) homes
+  clear_report-laid_out more tailed = let is : by_head q.completion ≡ true = ap by_head l.completion ∙ more in let a = emptied_answered q.handshake.driver (tailed_emptied q.handshake.driver tailed) in
+      let m = l.laid_out in let wc = m.word_count in record {
         reachable = goes_on n mode q ds cs words homes pos l tx.ClearReport (and_from _ _ is tailed);
         completion = l.completion;
         driver = drove n mode q ds cs words homes pos l (driver.Own ClearedReport);
-        controller = controlled-else (tx_renewed q).queue (says q) (says (tx_renewed q)) q.owed c (ctl-renew (says q) lies_there ends_posting n q.queue k.queue q.owed c l.controller tailed (answered_over n ends_posting q.queue k.queue a));
-        lies = renewed-lies q (slice_set words (n + 4) 0) (lies-beyond n mode q ds cs words homes pos l 0) tailed;
+        controller = controlled-else (tx_renewed q).queue (word_of_item q) (word_of_item (tx_renewed q)) q.owed c (ctl-renew (word_of_item q) buffer_of_item ends_posting n q.queue k.queue q.owed c l.controller tailed (answered_has_ended n ends_posting q.queue k.queue a));
+        laid_out = renewed-laid_out q (slice_set words (n + 4) 0) (laid_out-beyond n mode q ds cs words homes pos l 0) tailed;
         reports = λ e. get_or-set_same words (n + 4) 0 0 (head-within n mode words e wc) ∙ sym (zero-mod n pos);
         fetched = λ p held there. absurd (none-some p there);
         ready = λ serving. absurd (both_ways (is_serving q.handshake.controller) (answered_idle n ends_posting q.queue k.queue a) serving);
@@ -267,17 +267,17 @@ module _ (n : ℕ) (mode : Completion) (q : TxRing Bytes) (ds : List DriverStep)
       }
 
   -- a step of the controller that leaves what was fetched
-  fetched-on : (e : ControllerStep) → fetch_word (fetched_word cs) e ≡ fetched_word cs → IsFetched (fetched_word (cs ++ e ∷ [])) q.held q.ledger.posted q.ledger.served
+  fetched-on : (e : ControllerStep) → fetch_word (fetched_word cs) e ≡ fetched_word cs → IsFetched (fetched_word (cs ++ e ∷ [])) q.held q.ledger.posted q.ledger.completed
   fetched-on e same p held there = fetched-snoc cs e ∙ same ∙ l.fetched p held there
 
   -- B3
-  pub look-lies : (t : ℕ) → t ≡ q.published % n → is_serving q.handshake.controller ≡ true → LiesAs n mode (tx_changed q tx.Look) ds (cs ++ controller.Looked t ∷ []) words homes
-  look-lies t is serving = record {
+  pub look-laid_out : (t : ℕ) → t ≡ q.published % n → is_serving q.handshake.controller ≡ true → IsLaidOutAs n mode (tx_changed q tx.Look) ds (cs ++ controller.Looked t ∷ []) words homes
+  look-laid_out t is serving = record {
     reachable = goes_on n mode q ds cs words homes pos l tx.Look serving;
     completion = l.completion;
     driver = l.driver;
-    controller = control_is n mode q ds cs words homes pos l (tx_changed q tx.Look) (controller.Looked t) (ctl-look (says q) lies_there ends_posting n q.queue k.queue q.owed c l.controller t is serving);
-    lies = lies-look (says q) lies_there ends_posting n (words_of n mode) q.queue k.queue 0 words homes l.lies wide;
+    controller = control_is n mode q ds cs words homes pos l (tx_changed q tx.Look) (controller.Looked t) (ctl-look (word_of_item q) buffer_of_item ends_posting n q.queue k.queue q.owed c l.controller t is serving);
+    laid_out = laid_out-look (word_of_item q) buffer_of_item ends_posting n (words_of n mode) q.queue k.queue 0 words homes l.laid_out wide;
     reports = l.reports;
     fetched = fetched-on (controller.Looked t) refl;
     ready = λ s. k.published;
@@ -285,19 +285,19 @@ module _ (n : ℕ) (mode : Completion) (q : TxRing Bytes) (ds : List DriverStep)
     learnt = learnt-step n q k x l.learnt tx.Look serving refl refl;
   }
 
-  pub can-fetch : is_serving q.handshake.controller ≡ true → q.held ≡ false → served_count q.queue < q.known → q.owed ≡ false → tx_can q tx.Fetch ≡ true
-  can-fetch serving unheld some_known paid = and_from _ _ (and_from _ _ (and_from _ _ serving (ap not unheld)) (lt-ltb (served_count q.queue) q.known some_known)) (ap not paid)
+  pub can-fetch : is_serving q.handshake.controller ≡ true → q.held ≡ false → completed_count q.queue < q.known → q.owed ≡ false → tx_can q tx.Fetch ≡ true
+  can-fetch serving unheld some_known paid = and_from _ _ (and_from _ _ (and_from _ _ serving (ap not unheld)) (lt-ltb (completed_count q.queue) q.known some_known)) (ap not paid)
 
   -- B4
-  pub fetch-lies : (p : Posting) (at : ℕ) → at ≡ served_count q.queue % n → is_serving q.handshake.controller ≡ true → q.held ≡ false → served_count q.queue < q.known → q.owed ≡ false → next_posting q ≡ Some p
-      → LiesAs n mode (tx_changed q tx.Fetch) ds (cs ++ controller.Fetched at (word_of p) (filled p) ∷ []) words (set homes at none)
-  fetch-lies p at place serving unheld some_known paid is = let can = can-fetch serving unheld some_known paid in let t = and_parts _ (not q.owed) can in record {
+  pub fetch-laid_out : (p : Posting) (at : ℕ) → at ≡ completed_count q.queue % n → is_serving q.handshake.controller ≡ true → q.held ≡ false → completed_count q.queue < q.known → q.owed ≡ false → next_posting q ≡ Some p
+      → IsLaidOutAs n mode (tx_changed q tx.Fetch) ds (cs ++ controller.Fetched at (word_of p) (filled p) ∷ []) words (set homes at none)
+  fetch-laid_out p at place serving unheld some_known paid is = let can = can-fetch serving unheld some_known paid in let t = and_parts _ (not q.owed) can in record {
     reachable = goes_on n mode q ds cs words homes pos l tx.Fetch can;
     completion = l.completion;
     driver = l.driver;
     controller = control_is n mode q ds cs words homes pos l (tx_changed q tx.Fetch) (controller.Fetched at (word_of p) (filled p))
-        (ctl-fetch (says q) lies_there ends_posting n q.queue k.queue q.owed c l.controller (filled p) (ap (λ (o : Option Posting). lies_there o None) is));
-    lies = lies-fetch (says q) lies_there ends_posting n (words_of n mode) q.queue k.queue 0 words homes l.lies wide at place t.0;
+        (ctl-fetch (word_of_item q) buffer_of_item ends_posting n q.queue k.queue q.owed c l.controller (filled p) (ap (λ (o : Option Posting). buffer_of_item o None) is));
+    laid_out = laid_out-fetch (word_of_item q) buffer_of_item ends_posting n (words_of n mode) q.queue k.queue 0 words homes l.laid_out wide at place t.0;
     reports = l.reports;
     fetched = λ y held there. fetched-snoc cs (controller.Fetched at (word_of p) (filled p)) ∙ ap word_of (same_Some p y (sym is ∙ there));
     ready = l.ready;
@@ -306,10 +306,10 @@ module _ (n : ℕ) (mode : Completion) (q : TxRing Bytes) (ds : List DriverStep)
   }
 
   -- B5: the record of the controller after it
-  sent-is : (p : Posting) (h w : ℕ) → w ≡ word_of p → length p.payload ≤ 2048 → control n c (controller.Own (Sent h w (filled p))) ≡ record c { served = c.served ++ p ∷ []; held = None; head = h; barred = p.rs }
-  sent-is p h w is small = ap (λ (v : ℕ). let y : TxControlled = record c { served = c.served ++ posting_of v (filled p) ∷ []; held = None; head = h; barred = rs_of v } in y) is
-      ∙ ap (λ (z : Posting). let y : TxControlled = record c { served = c.served ++ z ∷ []; held = None; head = h; barred = rs_of (word_of p) } in y) (posting-posted p small)
-      ∙ ap (λ (b : Bool). let y : TxControlled = record c { served = c.served ++ p ∷ []; held = None; head = h; barred = b } in y) (rs_of-tx_word (length p.payload) p.eop p.rs p.paylen small)
+  sent-is : (p : Posting) (h w : ℕ) → w ≡ word_of p → length p.payload ≤ 2048 → control n c (controller.Own (Sent h w (filled p))) ≡ record c { completed = c.completed ++ p ∷ []; held = None; head = h; barred = p.rs }
+  sent-is p h w is small = ap (λ (v : ℕ). let y : TxControlled = record c { completed = c.completed ++ posting_of v (filled p) ∷ []; held = None; head = h; barred = rs_of v } in y) is
+      ∙ ap (λ (z : Posting). let y : TxControlled = record c { completed = c.completed ++ z ∷ []; held = None; head = h; barred = rs_of (word_of p) } in y) (posting-posted p small)
+      ∙ ap (λ (b : Bool). let y : TxControlled = record c { completed = c.completed ++ p ∷ []; held = None; head = h; barred = b } in y) (rs_of-tx_word (length p.payload) p.eop p.rs p.paylen small)
 
   sent-past : (o : Option Posting) → (sent_one q o).past ≡ q.past
   sent-past = either-way (λ o. (sent_one q o).past) q.past refl (λ y. refl)
@@ -318,32 +318,32 @@ module _ (n : ℕ) (mode : Completion) (q : TxRing Bytes) (ds : List DriverStep)
   sent-seen = either-way (λ o. (sent_one q o).seen_reported) q.seen_reported refl (λ y. refl)
 
   -- the place of the item that is sent keeps its word
-  word-stays : (p : Posting) (at : ℕ) → next_posting q ≡ Some p → at ≡ served_count q.queue % n → q.held ≡ true → says q (served_count q.queue) (slice_get q.ledger.posted (served_count q.queue)) (Some p) ≡ slice_index words at
-  word-stays p at is place held = let m = l.lies in let i = m.items in let o = k.queue.order in
-      ap (λ (o : Option Posting). says q (served_count q.queue) o (Some p)) is
-      ∙ sym (ap (slice_index words) place ∙ i.words (served_count q.queue) (returned_served n ends_posting q.queue k.queue (o.held_serving held)) (held_below n ends_posting q.queue k.queue held)
-      ∙ ap (λ (o : Option Posting). says q (served_count q.queue) o (slice_get q.ledger.served (served_count q.queue))) is)
+  word-stays : (p : Posting) (at : ℕ) → next_posting q ≡ Some p → at ≡ completed_count q.queue % n → q.held ≡ true → word_of_item q (completed_count q.queue) (slice_get q.ledger.posted (completed_count q.queue)) (Some p) ≡ slice_index words at
+  word-stays p at is place held = let m = l.laid_out in let i = m.items in let o = k.queue.order in
+      ap (λ (o : Option Posting). word_of_item q (completed_count q.queue) o (Some p)) is
+      ∙ sym (ap (slice_index words) place ∙ i.words (completed_count q.queue) (returned_completed n ends_posting q.queue k.queue (o.held_serving held)) (held_below n ends_posting q.queue k.queue held)
+      ∙ ap (λ (o : Option Posting). word_of_item q (completed_count q.queue) o (slice_get q.ledger.completed (completed_count q.queue))) is)
 
-  pub send-lies : (p : Posting) (at h : ℕ) → next_posting q ≡ Some p → at ≡ served_count q.queue % n → h ≡ (served_count q.queue + 1) % n → q.held ≡ true → length p.payload ≤ 2048
-      → LiesAs n mode (sent_one q (Some p)) ds (cs ++ controller.Own (Sent h (fetched_word cs) (filled p)) ∷ []) (slice_set words n h) (set homes at (some (filled p)))
-  send-lies p at h is place next held small = let o = k.queue.order in let serving = o.held_serving held in
-      let served = kept-by n ends_posting q.queue k.queue (queue.Serve p) tt held in
+  pub send-laid_out : (p : Posting) (at h : ℕ) → next_posting q ≡ Some p → at ≡ completed_count q.queue % n → h ≡ (completed_count q.queue + 1) % n → q.held ≡ true → length p.payload ≤ 2048
+      → IsLaidOutAs n mode (sent_one q (Some p)) ds (cs ++ controller.Own (Sent h (fetched_word cs) (filled p)) ∷ []) (slice_set words n h) (set homes at (some (filled p)))
+  send-laid_out p at h is place next held small = let o = k.queue.order in let serving = o.held_serving held in
+      let completed = kept-by n ends_posting q.queue k.queue (queue.Complete p) tt held in
       let w = slice_index words at in
-      let one = subst (λ (ws : List ℕ). LiesIn {Given = ℕ} (says q) lies_there n (words_of n mode) (by q.queue (queue.Serve p)) 0 ws (set homes at (some (filled p)))) (set-same words at)
-      (lies-serve (says q) lies_there ends_posting n (words_of n mode) q.queue k.queue 0 words homes l.lies wide p (filled p) w at place held (word-stays p at is place held)
-      (ap (λ (o : Option Posting). lies_there o (Some p)) is)) in
-      let more = length-append q.ledger.served (p ∷ []) in
-      let there : h ≡ served_count (by q.queue (queue.Serve p)) % n = next ∙ ap (λ (j : ℕ). j % n) (sym more) in
+      let one = subst (λ (ws : List ℕ). IsLaidOutIn {Reaped = ℕ} (word_of_item q) buffer_of_item n (words_of n mode) (by q.queue (queue.Complete p)) 0 ws (set homes at (some (filled p)))) (set-same words at)
+      (laid_out-complete (word_of_item q) buffer_of_item ends_posting n (words_of n mode) q.queue k.queue 0 words homes l.laid_out wide p (filled p) w at place held (word-stays p at is place held)
+      (ap (λ (o : Option Posting). buffer_of_item o (Some p)) is)) in
+      let more = length-append q.ledger.completed (p ∷ []) in
+      let there : h ≡ completed_count (by q.queue (queue.Complete p)) % n = next ∙ ap (λ (j : ℕ). j % n) (sym more) in
       let can = and_from (is_serving q.handshake.controller) true serving refl in
-      let s = ctl-serve (says q) lies_there ends_posting n q.queue k.queue q.owed c l.controller p in
-      let e = ctl-head (says q) lies_there ends_posting n (by q.queue (queue.Serve p)) served q.owed (record c { served = c.served ++ p ∷ []; held = None }) s h there in record {
+      let s = ctl-complete (word_of_item q) buffer_of_item ends_posting n q.queue k.queue q.owed c l.controller p in
+      let e = ctl-head (word_of_item q) buffer_of_item ends_posting n (by q.queue (queue.Complete p)) completed q.owed (record c { completed = c.completed ++ p ∷ []; held = None }) s h there in record {
         reachable = subst (λ (o : Option Posting). IsTxReachable Bytes n (sent_one q o)) is (goes_on n mode q ds cs words homes pos l tx.Send held);
         completion = l.completion;
         driver = l.driver;
         controller = control_is n mode q ds cs words homes pos l (sent_one q (Some p)) (controller.Own (Sent h (fetched_word cs) (filled p)))
-            (subst (λ (y : TxControlled). IsControlled {Given = ℕ} (says q) lies_there (sent_one q (Some p)).queue p.rs y) (sym (sent-is p h (fetched_word cs) (l.fetched p held is) small))
-            (record { served = e.served; known = e.known; held = e.held; head = e.head; state = e.state; seen = e.seen; barred = refl }));
-        lies = lies-head (says q) lies_there ends_posting n (words_of n mode) (by q.queue (queue.Serve p)) served 0 words (set homes at (some (filled p))) one wide h there can;
+            (subst (λ (y : TxControlled). IsControlled {Reaped = ℕ} (word_of_item q) buffer_of_item (sent_one q (Some p)).queue p.rs y) (sym (sent-is p h (fetched_word cs) (l.fetched p held is) small))
+            (record { completed = e.completed; known = e.known; held = e.held; head = e.head; state = e.state; seen = e.seen; barred = refl }));
+        laid_out = laid_out-head (word_of_item q) buffer_of_item ends_posting n (words_of n mode) (by q.queue (queue.Complete p)) completed 0 words (set homes at (some (filled p))) one wide h there can;
         reports = reports-else n mode q.reported words n h (λ e. omega arith) l.reports;
         fetched = λ y none there. absurd (false≢true none);
         ready = l.ready;
@@ -352,13 +352,13 @@ module _ (n : ℕ) (mode : Completion) (q : TxRing Bytes) (ds : List DriverStep)
       }
 
   -- C2
-  pub look_asked-lies : (r : ℕ) → r ≡ q.handshake.control → LiesAs n mode (tx_changed q (tx.Control LookAsked)) ds (cs ++ controller.LoadedRequest r ∷ []) words homes
-  look_asked-lies r e = record {
+  pub look_asked-laid_out : (r : ℕ) → r ≡ q.handshake.control → IsLaidOutAs n mode (tx_changed q (tx.Control LookAsked)) ds (cs ++ controller.LoadedRequest r ∷ []) words homes
+  look_asked-laid_out r e = record {
     reachable = goes_on n mode q ds cs words homes pos l (tx.Control LookAsked) refl;
     completion = l.completion;
     driver = l.driver;
-    controller = control_is n mode q ds cs words homes pos l (tx_changed q (tx.Control LookAsked)) (controller.LoadedRequest r) (ctl-look_asked (says q) lies_there ends_posting n q.queue k.queue q.owed c l.controller (tx_settled q) r e);
-    lies = lies-look_asked (says q) lies_there ends_posting n (words_of n mode) q.queue k.queue 0 words homes l.lies wide (tx_settled q);
+    controller = control_is n mode q ds cs words homes pos l (tx_changed q (tx.Control LookAsked)) (controller.LoadedRequest r) (ctl-look_asked (word_of_item q) buffer_of_item ends_posting n q.queue k.queue q.owed c l.controller (tx_settled q) r e);
+    laid_out = laid_out-look_asked (word_of_item q) buffer_of_item ends_posting n (words_of n mode) q.queue k.queue 0 words homes l.laid_out wide (tx_settled q);
     reports = l.reports;
     fetched = fetched-on (controller.LoadedRequest r) refl;
     ready = l.ready;
@@ -382,15 +382,15 @@ module _ (n : ℕ) (mode : Completion) (q : TxRing Bytes) (ds : List DriverStep)
   disabled-is : can_enable q.handshake ≡ false → tx_changed q (tx.Control Answer) ≡ disabled
   disabled-is e = ap answered-if e
 
-  pub enable-lies : q.handshake.seen ≡ 1 → is_serving q.handshake.controller ≡ false → LiesAs n mode enabled ds (cs ++ controller.Enabled ∷ []) (slice_set words (n + 2) 2) homes
-  enable-lies seen idle = let h = q.handshake in let m = l.lies in let can : can_enable h ≡ true = and_from _ _ (eq-eqb h.seen 1 seen) (ap not idle) in let may = or_left (can_enable h) (can_disable h && tx_settled q) can in
+  pub enable-laid_out : q.handshake.seen ≡ 1 → is_serving q.handshake.controller ≡ false → IsLaidOutAs n mode enabled ds (cs ++ controller.Enabled ∷ []) (slice_set words (n + 2) 2) homes
+  enable-laid_out seen idle = let h = q.handshake in let m = l.laid_out in let can : can_enable h ≡ true = and_from _ _ (eq-eqb h.seen 1 seen) (ap not idle) in let may = or_left (can_enable h) (can_disable h && tx_settled q) can in
       let opened = shakes-enable h.driver h.controller h.control h.seen seen (shook n ends_posting q.queue k.queue) in record {
         reachable = subst (λ (r : TxRing Bytes). IsTxReachable Bytes n r) (enabled-is can) (goes_on n mode q ds cs words homes pos l (tx.Control Answer) may);
         completion = l.completion;
         driver = l.driver;
         controller = control_is n mode q ds cs words homes pos l enabled controller.Enabled
-            (ctl-enable (says q) lies_there ends_posting n q.queue k.queue q.owed c l.controller idle opened.1 (m.cleared (early_enabling h.driver h.controller h.control h.seen seen (shook n ends_posting q.queue k.queue) opened.1) idle));
-        lies = lies-enable (says q) lies_there ends_posting n (words_of n mode) q.queue k.queue 0 words homes l.lies wide;
+            (ctl-enable (word_of_item q) buffer_of_item ends_posting n q.queue k.queue q.owed c l.controller idle opened.1 (m.cleared (early_enabling h.driver h.controller h.control h.seen seen (shook n ends_posting q.queue k.queue) opened.1) idle));
+        laid_out = laid_out-enable (word_of_item q) buffer_of_item ends_posting n (words_of n mode) q.queue k.queue 0 words homes l.laid_out wide;
         reports = reports-else n mode q.reported words (n + 2) 2 (λ e. omega arith) l.reports;
         fetched = fetched-on controller.Enabled refl;
         ready = λ s. refl;
@@ -398,14 +398,14 @@ module _ (n : ℕ) (mode : Completion) (q : TxRing Bytes) (ds : List DriverStep)
         learnt = subst (λ (r : TxRing Bytes). Learnt n r x) (enabled-is can) (learnt-step n q k x l.learnt (tx.Control Answer) may refl refl);
       }
 
-  pub disable-lies : q.handshake.seen ≡ 3 → is_serving q.handshake.controller ≡ true → tx_settled q ≡ true → LiesAs n mode disabled ds (cs ++ controller.Disabled ∷ []) (slice_set words (n + 2) 0) homes
-  disable-lies seen serving settled = let h = q.handshake in let off : can_enable h ≡ false = ap (λ (v : ℕ). (v == 1) && not (is_serving h.controller)) seen in
+  pub disable-laid_out : q.handshake.seen ≡ 3 → is_serving q.handshake.controller ≡ true → tx_settled q ≡ true → IsLaidOutAs n mode disabled ds (cs ++ controller.Disabled ∷ []) (slice_set words (n + 2) 0) homes
+  disable-laid_out seen serving settled = let h = q.handshake in let off : can_enable h ≡ false = ap (λ (v : ℕ). (v == 1) && not (is_serving h.controller)) seen in
       let can : can_disable h ≡ true = and_from _ _ (eq-eqb h.seen 3 seen) serving in let may = or_right (can_enable h) (can_disable h && tx_settled q) (and_from _ _ can settled) in record {
         reachable = subst (λ (r : TxRing Bytes). IsTxReachable Bytes n r) (disabled-is off) (goes_on n mode q ds cs words homes pos l (tx.Control Answer) may);
         completion = l.completion;
         driver = l.driver;
-        controller = control_is n mode q ds cs words homes pos l disabled controller.Disabled (ctl-disable (says q) lies_there ends_posting n q.queue k.queue q.owed c l.controller serving);
-        lies = lies-disable (says q) lies_there ends_posting n (words_of n mode) q.queue k.queue 0 words homes l.lies wide seen serving;
+        controller = control_is n mode q ds cs words homes pos l disabled controller.Disabled (ctl-disable (word_of_item q) buffer_of_item ends_posting n q.queue k.queue q.owed c l.controller serving);
+        laid_out = laid_out-disable (word_of_item q) buffer_of_item ends_posting n (words_of n mode) q.queue k.queue 0 words homes l.laid_out wide seen serving;
         reports = reports-else n mode q.reported words (n + 2) 0 (λ e. omega arith) l.reports;
         fetched = fetched-on controller.Disabled refl;
         ready = λ s. absurd (false≢true s);

@@ -38,16 +38,16 @@ pub passed-nothing : (ps : List Posting) (seen : ℕ) → seen ≤ length ps →
 passed-nothing ps seen below = record { there = omega arith; none = λ j low high. absurd (omega arith) }
 
 -- so the search may begin behind them
-pub from-passed : (ps : List Posting) (seen over : ℕ) → HasPassed ps seen over → (k : ℕ) → k ≤ over → first_report ps seen (length ps - seen) ≡ first_report ps (seen + k) (length ps - (seen + k))
-from-passed ps seen over h zero low = ap (λ (j : ℕ). first_report ps j (length ps - j)) (let e : seen ≡ seen + 0 = omega arith in e)
-from-passed ps seen over h (suc k) low = let t = h.there in
-    from-passed ps seen over h k (omega arith) ∙ (first-skip ps (seen + k) (length ps - (seen + k)) (omega arith) (h.none (seen + k) (omega arith) (omega arith))
+pub from-passed : (ps : List Posting) (seen quiesced : ℕ) → HasPassed ps seen quiesced → (k : ℕ) → k ≤ quiesced → first_report ps seen (length ps - seen) ≡ first_report ps (seen + k) (length ps - (seen + k))
+from-passed ps seen quiesced h zero low = ap (λ (j : ℕ). first_report ps j (length ps - j)) (let e : seen ≡ seen + 0 = omega arith in e)
+from-passed ps seen quiesced h (suc k) low = let t = h.there in
+    from-passed ps seen quiesced h k (omega arith) ∙ (first-skip ps (seen + k) (length ps - (seen + k)) (omega arith) (h.none (seen + k) (omega arith) (omega arith))
     ∙ (ap (λ (j : ℕ). first_report ps j (length ps - (seen + k) - 1)) (let f : seen + k + 1 ≡ seen + suc k = omega arith in f)
     ∙ ap (first_report ps (seen + suc k)) (let g : length ps - (seen + k) - 1 ≡ length ps - (seen + suc k) = omega arith in g)))
 
 -- one more is posted
-pub passed-snoc : (ps : List Posting) (p : Posting) (seen over : ℕ) → HasPassed ps seen over → HasPassed (ps ++ p ∷ []) seen over
-passed-snoc ps p seen over h = let t = h.there in let len = length-append ps (p ∷ []) in record {
+pub passed-snoc : (ps : List Posting) (p : Posting) (seen quiesced : ℕ) → HasPassed ps seen quiesced → HasPassed (ps ++ p ∷ []) seen quiesced
+passed-snoc ps p seen quiesced h = let t = h.there in let len = length-append ps (p ∷ []) in record {
   there = omega arith;
   none = λ j low high. ap asks_report (slice_get-front ps (p ∷ []) j (omega arith)) ∙ h.none j low high;
 }

@@ -17,7 +17,7 @@ module _ (d d1 : DriverSide) (one : d1 ≡ driver_grown d driver.ClearedHead) wh
   head-place fill e = e ∙ ap (λ (n : ℕ). length (posted d) % n) (sym (ap driver_size one)) ∙ ap (λ (x : TxDriven). length x.posted % driver_size d1) (sym first)
 
   pub head-back : returned d ≡ length (posted d) → returned d1 ≡ length (posted d1)
-  head-back e = subst (λ (x : TxDriven). length x.given + x.reclaimed ≡ length x.posted) (sym first) e
+  head-back e = subst (λ (x : TxDriven). length x.reaped + x.reclaimed ≡ length x.posted) (sym first) e
 
   module _ (d2 : DriverSide) (two : d2 ≡ driver_grown d1 driver.ClearedTail) where
     second : driver_record d2 ≡ drive (driver_record d1) driver.ClearedTail
@@ -30,4 +30,4 @@ module _ (d d1 : DriverSide) (one : d1 ≡ driver_grown d driver.ClearedHead) wh
     tail-place fill e = head-place fill e ∙ ap (λ (n : ℕ). length (posted d1) % n) (sym (ap driver_size two)) ∙ ap (λ (x : TxDriven). length x.posted % driver_size d2) (sym second)
 
     pub tail-back : returned d ≡ length (posted d) → returned d2 ≡ length (posted d2)
-    tail-back e = subst (λ (x : TxDriven). length x.given + x.reclaimed ≡ length x.posted) (sym second) (head-back e)
+    tail-back e = subst (λ (x : TxDriven). length x.reaped + x.reclaimed ≡ length x.posted) (sym second) (head-back e)

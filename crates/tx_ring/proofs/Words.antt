@@ -70,5 +70,5 @@ word-is eop rs paylen len d a b c e w h = h
 
 -- what the test of a status word says, as the definitions read it
 pub done-word : (b : Bool) (w : ℕ) → (b ≡ true → (w / 2 ^ 32) % 2 ≡ 1) → ((w / 2 ^ 32) % 2 ≡ 1 → b ≡ true) → is_done w ≡ b
-done-word true w says from = eq-eqb ((w / 2 ^ 32) % 2) 1 (says refl)
-done-word false w says from = false_from_ne_true ((w / 2 ^ 32) % 2 == 1) (λ e. false≢true (from (eqb-true ((w / 2 ^ 32) % 2) 1 e)))
+done-word true w word_of_item from = eq-eqb ((w / 2 ^ 32) % 2) 1 (word_of_item refl)
+done-word false w word_of_item from = false_from_ne_true ((w / 2 ^ 32) % 2 == 1) (λ e. false≢true (from (eqb-true ((w / 2 ^ 32) % 2) 1 e)))

@@ -34,7 +34,7 @@ use Rattle.shared_ring.specs.declared.ends.ControllerPlaces.{ControllerPlaces}
 pub record Fetched (old : ControllerSide) (buf : Buffer) (read : TxRead) (new : ControllerSide) : Type 0 where
   pub word : ℕ
   pub step : new ≡ controller_grown old (controller.Fetched (serve_place old) word buf)
-  pub says : word ≡ tx_word (length buf.bytes) read.eop read.rs read.paylen
+  pub word_is : word ≡ tx_word (length buf.bytes) read.eop read.rs read.paylen
   pub eop : read.eop ≡ eop_of word
   pub rs : read.rs ≡ rs_of word
   pub paylen : read.paylen ≡ paylen_of word
@@ -55,12 +55,12 @@ report_of n Head count = Reported (report_index n) (count % n)
 pub record IsServerOf (n : ℕ) (x : TxControlled) (word : ℕ) (at : ControllerPlaces) (last : ℕ) (ends asks owing : Bool) : Type 0 where
   pub server : IsServer carried n x at
   pub open server use *
-  pub head_is : is_serving x.state ≡ true → x.head ≡ length x.served % n
+  pub head_is : is_serving x.state ≡ true → x.head ≡ length x.completed % n
   pub ends_is : at.holding ≡ true → ends ≡ eop_of word
   pub asks_is : at.holding ≡ true → asks ≡ rs_of word
   pub owing_is : owing ≡ x.barred
   pub owing_serving : owing ≡ true → is_serving x.state ≡ true
-  pub last_is : owing ≡ true → last ≡ (length x.served - 1) % n
+  pub last_is : owing ≡ true → last ≡ (length x.completed - 1) % n
 
 abbrev pub IsControllerEnd : ControllerSide → ControllerPlaces → ℕ → Bool → Bool → Bool → Type 0
 IsControllerEnd c at last ends asks owing = IsServerOf (controller_size c) (controller_record c) (held_word c) at last ends asks owing
@@ -104,7 +104,7 @@ pub record CleanedOne (old : DriverSide) (buf : Buffer) (new : DriverSide) : Typ
   pub step : new ≡ driver_grown old (driver.Own (Cleaned (next_place old) buf))
   pub there : slice_get (posted old) (length (cleaned old)) ≡ Some item
   pub is : buf ≡ filled item
-  pub same : driver_record new ≡ record (driver_record old) { given = cleaned old ++ buf.number ∷ [] }
+  pub same : driver_record new ≡ record (driver_record old) { reaped = cleaned old ++ buf.number ∷ [] }
   pub known : known_of new ≡ known_of old
 
 -- The head was loaded, and shows how many of the postings were not sent.
@@ -153,9 +153,9 @@ pub record IsEndOf (n : ℕ) (x : TxDriven) (k : Knowing) (at : DriverPlaces) (s
   pub poster : IsPoster n x at
   pub open poster use *
   pub seen_is : seen ≡ k.seen % n
-  pub done_is : done + length x.given ≡ k.seen
+  pub done_is : done + length x.reaped ≡ k.seen
   pub unseen_is : unseen + k.seen ≡ length x.posted
-  pub few : length x.posted < length x.given + n
+  pub few : length x.posted < length x.reaped + n
   pub whole_is : whole ≡ are_whole x.posted
   pub asks_count : length asks ≡ n
   pub asks_are : AskedAt n x.posted k.seen asks

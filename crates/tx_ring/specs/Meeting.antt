@@ -4,7 +4,7 @@ use Rattle.buffer_pool.specs.Buffer.{Buffer}
 use Rattle.ring_model.specs.shared.Frames.{Bytes}
 use Rattle.ring_model.specs.transmit.Ring.{TxLedger, number_of_posting}
 use Rattle.shared_ring.specs.Meeting as shared
-pub use Rattle.shared_ring.specs.Meeting.{MadeSeats, is_unanswered, served_now as sent_now, Met, IsTold, IsReal, AllReal, CameBackFrom, IsOutAt, numbers_at}
+pub use Rattle.shared_ring.specs.Meeting.{MadeSeats, is_unanswered, completed_now as sent_now, Met, IsTold, IsReal, AllReal, CameBackFrom, IsOutAt, numbers_at}
 use Rattle.tx_ring.specs.Ends.{DriverSide, driver_size, posted, cleaned, known_of, ControllerSide}
 use Rattle.tx_ring.specs.Form.{AreOf}
 use Rattle.tx_ring.specs.Records.{Posting}
@@ -12,7 +12,7 @@ use Rattle.tx_ring.specs.Rule.{filled}
 
 -- The ledger that the two ends have together.
 abbrev pub ledger_of : DriverSide → ControllerSide → TxLedger Bytes
-ledger_of d c = record { posted = posted d; served = sent_now d c; given = cleaned d }
+ledger_of d c = record { posted = posted d; completed = sent_now d c; reaped = cleaned d }
 
 -- The number of postings that were not sent, from a loaded head.
 abbrev pub left_by : DriverSide → ℕ → ℕ

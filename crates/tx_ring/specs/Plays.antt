@@ -44,7 +44,7 @@ cleans n es place r b = driver.Own (Cleaned place b)
 
 pub record IsCleaned (n : ℕ) (es : List DriverStep) (place r : ℕ) (b : Buffer) : Type 0 where
   pub item : Posting
-  pub there : slice_get (driving es).posted (length (driving es).given) ≡ Some item
+  pub there : slice_get (driving es).posted (length (driving es).reaped) ≡ Some item
   pub is : b ≡ filled item
 
 -- C10, as the last step of an epoch.

@@ -43,9 +43,9 @@ posting_of word b = new_posting b.number b.bytes (eop_of word) (rs_of word) (pay
 abbrev pub drive_own : TxDriven → TxDriverOwn → TxDriven
 drive_own d (NoReport place word) = d
 drive_own d (SawReport place word) = d
-drive_own d (Cleaned place b) = record d { given = d.given ++ b.number ∷ [] }
-drive_own d EndedEpoch = record d { posted = []; published = 0; given = []; reclaimed = 0; state = New }
-drive_own d ClearedReport = record d { posted = []; given = []; reclaimed = 0; state = New }
+drive_own d (Cleaned place b) = record d { reaped = d.reaped ++ b.number ∷ [] }
+drive_own d EndedEpoch = record d { posted = []; published = 0; reaped = []; reclaimed = 0; state = New }
+drive_own d ClearedReport = record d { posted = []; reaped = []; reclaimed = 0; state = New }
 
 abbrev pub drive : TxDriven → DriverStep → TxDriven
 drive = shared.drive posting_of drive_own
@@ -55,7 +55,7 @@ driving es = shared.driving_from posting_of drive_own undriven es
 
 -- While a report is owed, nothing more is fetched.
 abbrev pub control_own : TxControlled → TxControllerOwn → TxControlled
-control_own c (Sent head word b) = record c { served = c.served ++ posting_of word b ∷ []; held = None; head = head; barred = rs_of word }
+control_own c (Sent head word b) = record c { completed = c.completed ++ posting_of word b ∷ []; held = None; head = head; barred = rs_of word }
 control_own c (Reported place word) = record c { barred = false }
 
 -- The access that a step makes in a ring of `n` places.

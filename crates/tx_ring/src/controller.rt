@@ -108,7 +108,7 @@ impl TxControllerEnd {
         requires own { self.old.table ≡ ring.now }
         requires held { held self.old ≡ Some buf }
         ensures step { self.new ≡ controller_grown self.old (Own (Sent ((length (sent self.old) + 1) % controller_size self.old) (held_word self.old) buf)) }
-        ensures record { controller_record self.new ≡ record (controller_record self.old) { served = sent self.old ++ posting_of (held_word self.old) buf ∷ []; held = None; head = (length (sent self.old) + 1) % controller_size self.old; barred = rs_of (held_word self.old) } }
+        ensures record { controller_record self.new ≡ record (controller_record self.old) { completed = sent self.old ++ posting_of (held_word self.old) buf ∷ []; held = None; head = (length (sent self.old) + 1) % controller_size self.old; barred = rs_of (held_word self.old) } }
     {
         let head = place_after(self.at.serve, self.at.size);
         steps::send(&mut self.seat, &ring.0, self.at.serve, head, buf);

@@ -17,9 +17,9 @@ impl Direction<TxDriverOwn, TxControllerOwn> for TxRule {
 
     ghost Posted = { transmit.Posting Bytes };
 
-    ghost Served = { transmit.Posting Bytes };
+    ghost Completed = { transmit.Posting Bytes };
 
-    ghost Given = { ℕ };
+    ghost Reaped = { ℕ };
 
     ghost form = { tx };
 }

@@ -87,9 +87,9 @@ pub fn close(ring: TxRing, driver: TxDriverEnd, controller: TxControllerEnd) -> 
     let TxDriverEnd { seat, at, .. } = driver;
     let TxControllerEnd {
         seat: other,
-        at: served,
+        at: completed,
         ..
     } = controller;
     ring.0
-        .take_apart(seat, other, at.next, at.out, served.serve, served.holding)
+        .take_apart(seat, other, at.next, at.out, completed.serve, completed.holding)
 }

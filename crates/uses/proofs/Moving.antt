@@ -48,7 +48,7 @@ module _ (old new : Transmitter) (had has : List ℕ) (before after : List (List
 -- an enabling leaves all buffers where they are
 received-enabled : (old new : Receiver) (is : Bool) → is_open (receiving.driver_state old.end) ≡ is → (is_open (receiving.driver_state old.end) ≡ true → AskedEnabling old.end new.end)
     → (is_open (receiving.driver_state old.end) ≡ false → new ≡ old) → new.chain ≡ old.chain → with_receiver new ≡ with_receiver old
-received-enabled old new true e asked same chain = ap (λ (x : RxDriven). map itself (drop (length x.given + x.reclaimed) x.posted) ++ numbers_of new.chain) (asked e).did
+received-enabled old new true e asked same chain = ap (λ (x : RxDriven). map itself (drop (length x.reaped + x.reclaimed) x.posted) ++ numbers_of new.chain) (asked e).did
     ∙ ap (λ (l : List Buffer). map itself (drop (receiving.returned old.end) (receiving.posted old.end)) ++ numbers_of l) chain
 received-enabled old new false e asked same chain = ap with_receiver (same e)
 
@@ -60,7 +60,7 @@ lent-receiving held old new tx stash packets s asked same chain = λ h. s h
 
 sent-enabled : (old new : Transmitter) (is : Bool) → is_open (transmitting.driver_state old.end) ≡ is → (is_open (transmitting.driver_state old.end) ≡ true → AskedEnabling old.end new.end)
     → (is_open (transmitting.driver_state old.end) ≡ false → new ≡ old) → with_transmitter new ≡ with_transmitter old
-sent-enabled old new true e asked same = ap (λ (x : TxDriven). map number_of_posting (drop (length x.given + x.reclaimed) x.posted)) (asked e).did
+sent-enabled old new true e asked same = ap (λ (x : TxDriven). map number_of_posting (drop (length x.reaped + x.reclaimed) x.posted)) (asked e).did
 sent-enabled old new false e asked same = ap with_transmitter (same e)
 
 pub lent-sending : (held : List ℕ) (rx : Receiver) (old new : Transmitter) (stash : List ℕ) (packets : List (List Buffer)) → SameNumbers held (lent rx old stash packets)

@@ -17,7 +17,7 @@ itself n = n
 
 -- the numbers of the buffers that are out, as the record tells them
 abbrev pub out_in : RxDriven → List ℕ
-out_in x = map itself (drop (length x.given + x.reclaimed) x.posted)
+out_in x = map itself (drop (length x.reaped + x.reclaimed) x.posted)
 
 -- the buffer that was taken from the stock is posted behind those that are out
 pub shared-posted : (s : Stocked) (number : ℕ) (d new : DriverSide) → returned d ≤ length (posted d)
@@ -42,7 +42,7 @@ out-taken d new buf eop t = ap (map itself) (from_item (posted d) (returned d) b
     oldest = subst (λ (k : ℕ). slice_get (posted d) k ≡ Some buf.number) none_back t.number
 
     after : returned d + 1 ≡ returned new
-    after = let e = ap (λ (x : RxDriven). length x.given + x.reclaimed) t.grew in let l = length-append (taken d) (segment buf eop ∷ []) in omega arith
+    after = let e = ap (λ (x : RxDriven). length x.reaped + x.reclaimed) t.grew in let l = length-append (taken d) (segment buf eop ∷ []) in omega arith
 
 -- the oldest comes back to its stock
 pub shared-taken : (s : Stocked) (d new : DriverSide) (buf : Buffer) (eop : Bool) → TookSegment d buf eop new → Shares s (out_of d) → Shares s (buf.number ∷ out_of new)

@@ -30,7 +30,7 @@ module _ (most left : ℕ) (old : DriverSide) (had : List ℕ) (d : DriverSide) 
       → new ≡ posting (in_place (is_open (driver_state mid)) stash) mid → stash ≡ in_place (is_open (driver_state mid)) stash ++ has → taken new ≡ taken mid → GoesOn most left' old had new has
   goes-one left' mid new has buf eop some e t step kept same = record {
     segments = h.segments ++ segment buf eop ∷ [];
-    took = same ∙ (ap (λ (x : RxDriven). x.given) t.grew ∙ (ap (λ (l : List (Segment Bytes)). l ++ segment buf eop ∷ []) h.took ∙ append_assoc (taken old) h.segments (segment buf eop ∷ [])));
+    took = same ∙ (ap (λ (x : RxDriven). x.reaped) t.grew ∙ (ap (λ (l : List (Segment Bytes)). l ++ segment buf eop ∷ []) h.took ∙ append_assoc (taken old) h.segments (segment buf eop ∷ [])));
     on = λ more new' has' p. subst (λ (l : List (Segment Bytes)). Polls most l old had new' has') (sym (append_assoc h.segments (segment buf eop ∷ []) more))
         (h.on (segment buf eop ∷ more) new' has' (
           new,
@@ -67,7 +67,7 @@ module _ (most left : ℕ) (old : DriverSide) (had : List ℕ) (d : DriverSide) 
   goes-nothing new some found same = goes-out new (inr (some, found), refl) same
 
 pub nothing_taken : (d new : DriverSide) → FoundNothing d new → taken new ≡ taken d
-nothing_taken d new found = ⊎_elim (λ s. ap (λ (x : RxDriven). x.given) s.same) (λ s. ap (λ (x : DriverSide). taken x) s.same) found
+nothing_taken d new found = ⊎_elim (λ s. ap (λ (x : RxDriven). x.reaped) s.same) (λ s. ap (λ (x : DriverSide). taken x) s.same) found
 
 -- while fewer than a batch are added and the list is not full, a packet more may be added; else none
 module _ (batch most count len was : ℕ) (grew : len ≡ was + count) where

@@ -29,7 +29,7 @@ then_grew a b c xs ys f g = g ∙ (ap (λ l. l ++ ys) f ∙ append_assoc a xs ys
 
 -- the numbers of the buffers that are out, as the record tells them
 abbrev out_in : RxDriven → List ℕ
-out_in x = map itself (drop (length x.given + x.reclaimed) x.posted)
+out_in x = map itself (drop (length x.reaped + x.reclaimed) x.posted)
 
 -- buffers that are out, as more are posted and the oldest come back
 then_out : (a b c f g s t : List ℕ) → a ++ f ≡ s ++ b → b ++ g ≡ t ++ c → a ++ (f ++ g) ≡ (s ++ t) ++ c
@@ -56,7 +56,7 @@ out-taken d new buf eop t = append-nil (out_of itself d)
     oldest = subst (λ (k : ℕ). slice_get (posted d) k ≡ Some buf.number) none_back t.number
 
     after : returned d + 1 ≡ returned new
-    after = let e = ap (λ (x : RxDriven). length x.given + x.reclaimed) t.grew in let l = length-append (taken d) (segment buf eop ∷ []) in omega arith
+    after = let e = ap (λ (x : RxDriven). length x.reaped + x.reclaimed) t.grew in let l = length-append (taken d) (segment buf eop ∷ []) in omega arith
 
 pub grew-none : (h : Hands) → GrewBy h h
 grew-none h = record {
@@ -160,12 +160,12 @@ grew-filled d new had has chain list f = record {
   segments = [];
   numbers = f.numbers;
   packets = [];
-  took = ap (λ (x : RxDriven). x.given) f.did ∙ sym (append-nil (taken d));
+  took = ap (λ (x : RxDriven). x.reaped) f.did ∙ sym (append-nil (taken d));
   posts = ap (λ (x : RxDriven). x.posted) f.did;
   appended = sym (append-nil list);
   stash = f.stash;
   chained = append-nil (going_on chain);
-  framed = ap (λ (x : RxDriven). frames piece_of x.given) f.did ∙ sym (append-nil (frames piece_of (taken d)));
+  framed = ap (λ (x : RxDriven). frames piece_of x.reaped) f.did ∙ sym (append-nil (frames piece_of (taken d)));
   lawful = All-nil (IsTaken (driver_size d));
   shut = f.shut;
   none_back = ap (λ (x : RxDriven). x.reclaimed) f.did;
@@ -191,7 +191,7 @@ module _ (d new : DriverSide) (buf : Buffer) (stash : List ℕ) (list : List (Li
     segments = segment buf eop ∷ [];
     numbers = [];
     packets = packets;
-    took = ap (λ (x : RxDriven). x.given) t.grew;
+    took = ap (λ (x : RxDriven). x.reaped) t.grew;
     posts = ap (λ (x : RxDriven). x.posted) t.grew ∙ sym (append-nil (posted d));
     appended = appended;
     stash = refl;
@@ -210,11 +210,11 @@ module _ (d new : DriverSide) (buf : Buffer) (stash : List ℕ) (list : List (Li
   -- one that does not end its frame
   pub grew-more : TookSegment d buf false new → IsRest d chain → GrewBy (at d chain stash list) (at new (chain ++ buf ∷ []) stash list)
   grew-more t r = grew-taken false (chain ++ buf ∷ []) [] list t (sym (append-nil list)) (sym (going_on-push chain buf))
-      (frames-more (driver_size d) (taken d) (taken new) chain buf r.rest (ap (λ (x : RxDriven). x.given) t.grew)) (All-nil (IsTaken (driver_size d)))
+      (frames-more (driver_size d) (taken d) (taken new) chain buf r.rest (ap (λ (x : RxDriven). x.reaped) t.grew)) (All-nil (IsTaken (driver_size d)))
 
   pub rest-grows : TookSegment d buf false new → IsRest d chain → IsRest new (chain ++ buf ∷ [])
   rest-grows t r = record {
-    rest = rest-more (driver_size d) (taken d) (taken new) chain buf r.rest (ap (λ (x : RxDriven). x.given) t.grew);
+    rest = rest-more (driver_size d) (taken d) (taken new) chain buf r.rest (ap (λ (x : RxDriven). x.reaped) t.grew);
     each = All-push HasSegment chain buf r.each (record { real = t.real; some_bytes = t.follows.some_bytes });
   }
 
@@ -222,12 +222,12 @@ module _ (d new : DriverSide) (buf : Buffer) (stash : List ℕ) (list : List (Li
   pub grew-ended : TookSegment d buf true new → IsRest d chain → GrewBy (at d chain stash list) (at new [] stash (list ++ (chain ++ buf ∷ []) ∷ []))
   grew-ended t r = grew-taken true [] ((chain ++ buf ∷ []) ∷ []) (list ++ (chain ++ buf ∷ []) ∷ []) t refl
       (sym (append-nil ((segments_of (chain ++ buf ∷ [])) ++ []) ∙ (append-nil (segments_of (chain ++ buf ∷ [])) ∙ segments_of-push chain buf)))
-      (frames-ended (driver_size d) (taken d) (taken new) chain buf r.rest (ap (λ (x : RxDriven). x.given) t.grew))
+      (frames-ended (driver_size d) (taken d) (taken new) chain buf r.rest (ap (λ (x : RxDriven). x.reaped) t.grew))
       (All-push (IsTaken (driver_size d)) [] (chain ++ buf ∷ []) (All-nil (IsTaken (driver_size d))) (packet-ended (driver_size d) (taken d) (taken new) chain buf r.rest true t.follows refl r.each))
 
   pub rest-ends : TookSegment d buf true new → IsRest d chain → IsRest new []
   rest-ends t r = record {
-    rest = rest-ended (driver_size d) (taken d) (taken new) chain buf r.rest (ap (λ (x : RxDriven). x.given) t.grew);
+    rest = rest-ended (driver_size d) (taken d) (taken new) chain buf r.rest (ap (λ (x : RxDriven). x.reaped) t.grew);
     each = All-nil HasSegment;
   }
 
@@ -238,12 +238,12 @@ module _ (d new : DriverSide) (buf : Buffer) (stash : List ℕ) (list : List (Li
     segments = [];
     numbers = [];
     packets = [];
-    took = ap (λ (x : RxDriven). x.given) s.same ∙ sym (append-nil (taken d));
+    took = ap (λ (x : RxDriven). x.reaped) s.same ∙ sym (append-nil (taken d));
     posts = ap (λ (x : RxDriven). x.posted) s.same ∙ sym (append-nil (posted d));
     appended = sym (append-nil list);
     stash = refl;
     chained = append-nil (going_on chain);
-    framed = ap (λ (x : RxDriven). frames piece_of x.given) s.same ∙ sym (append-nil (frames piece_of (taken d)));
+    framed = ap (λ (x : RxDriven). frames piece_of x.reaped) s.same ∙ sym (append-nil (frames piece_of (taken d)));
     lawful = All-nil (IsTaken (driver_size d));
     shut = λ e. refl;
     none_back = ap (λ (x : RxDriven). x.reclaimed) s.same;

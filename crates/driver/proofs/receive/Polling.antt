@@ -43,7 +43,7 @@ found_nothing d poll.Empty new live none found = inr found
 found_nothing d poll.Off new live none found = absurd (false≢true (sym found.off ∙ live))
 
 rest_filled : (d new : DriverSide) (had has : List ℕ) (chain : List Buffer) → Filled d had new has → IsRest d chain → IsRest new chain
-rest_filled d new had has chain f r = record { rest = ap (λ (x : RxDriven). unfinished piece_of x.given) f.did ∙ r.rest; each = r.each }
+rest_filled d new had has chain f r = record { rest = ap (λ (x : RxDriven). unfinished piece_of x.reaped) f.did ∙ r.rest; each = r.each }
 
 pub polled-none : (h : Hands) → IsRest h.end h.chain → Polled h 0 h
 polled-none h r = record { grew = grew-none h; count_is = omega arith; runs = runs-none is_exchange h.end; unpublished = refl; rest = r }
@@ -85,7 +85,7 @@ module _ (old : Hands) (count : ℕ) (d : DriverSide) (chain : List Buffer) (sta
     count_is = h.count_is;
     runs = runs-trans is_exchange old.end d new h.runs (runs-one is_exchange d new (driver.Own (NotDone (next_place d) s.word)) s.step refl);
     unpublished = ap (λ (x : RxDriven). x.published) s.same ∙ h.unpublished;
-    rest = record { rest = ap (λ (x : RxDriven). unfinished piece_of x.given) s.same ∙ h.rest.rest; each = h.rest.each };
+    rest = record { rest = ap (λ (x : RxDriven). unfinished piece_of x.reaped) s.same ∙ h.rest.rest; each = h.rest.each };
   }
 
   nothing-not_done : (new : DriverSide) → SawNotDone d new → SawNothing old.end new

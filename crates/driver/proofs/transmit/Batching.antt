@@ -51,7 +51,7 @@ module _ (every before : ℕ) (had : List (List Buffer)) (old new : DriverSide) 
       let more = ap (λ (x : TxDriven). length x.posted) same ∙ ap (λ (x : TxDriven). length x.posted) went.did in
       let longer = length-append (posted old) (frames_of every before (take count had)) in
       let segments = frames_of-length every before (take count had) in
-      let back = ap (λ (x : TxDriven). length x.given + x.reclaimed) same ∙ ap (λ (x : TxDriven). length x.given + x.reclaimed) went.did ∙ ap (λ l. length l + (driver_record old).reclaimed) (append-nil (cleaned old)) in
+      let back = ap (λ (x : TxDriven). length x.reaped + x.reclaimed) same ∙ ap (λ (x : TxDriven). length x.reaped + x.reclaimed) went.did ∙ ap (λ l. length l + (driver_record old).reclaimed) (append-nil (cleaned old)) in
       omega (arith, size, more, longer, segments, back, room_is)
 
   module _ (most : room < driver_size old) (room_is : room + length (posted old) + 1 ≡ driver_size old + returned old) where
@@ -62,7 +62,7 @@ module _ (every before : ℕ) (had : List (List Buffer)) (old new : DriverSide) 
         → out_of number_of_posting new ≡ out_of number_of_posting old ++ numbers_in (take count had)
     more_out count filled went same =
         let fr = frames_of every before (take count had) in
-        ap (λ (x : TxDriven). map number_of_posting (drop (length x.given + x.reclaimed) x.posted)) (same ∙ ap (λ (x : TxDriven). record x { published = length (posted filled) }) went.did)
+        ap (λ (x : TxDriven). map number_of_posting (drop (length x.reaped + x.reclaimed) x.posted)) (same ∙ ap (λ (x : TxDriven). record x { published = length (posted filled) }) went.did)
         ∙ (ap (λ l. map number_of_posting (drop (length l + reclaimed old) (posted old ++ fr))) (append-nil (cleaned old))
         ∙ (ap (map number_of_posting) (drop-append-le (returned old) (posted old) fr few_back)
         ∙ (map-append number_of_posting (drop (returned old) (posted old)) fr
@@ -110,7 +110,7 @@ batched count every frames frames' old between new had has ps qs cleaning postin
       state = ap driver_state posting.publishing ∙ (after (λ x. x.state) (λ x k. refl) count posting.filled ∙ (ap (λ (x : TxDriven). x.state) posting.posting.did ∙ cleaning.state));
       none_back = ap reclaimed posting.publishing ∙ (after (λ x. x.reclaimed) (λ x k. refl) count posting.filled ∙ (ap (λ (x : TxDriven). x.reclaimed) posting.posting.did ∙ cleaning.none_back));
       known = posting.known;
-      cleans = ap cleaned posting.publishing ∙ after (λ x. x.given) (λ x k. refl) count posting.filled ∙ ap (λ (x : TxDriven). x.given) posting.posting.did
-          ∙ append-nil (cleaned between) ∙ ap (λ (x : TxDriven). x.given) cleaning.went.did;
+      cleans = ap cleaned posting.publishing ∙ after (λ x. x.reaped) (λ x k. refl) count posting.filled ∙ ap (λ (x : TxDriven). x.reaped) posting.posting.did
+          ∙ append-nil (cleaned between) ∙ ap (λ (x : TxDriven). x.reaped) cleaning.went.did;
       counted = ap (λ (n : ℕ). record { end = new; every = every; frames = n }) counts;
     }

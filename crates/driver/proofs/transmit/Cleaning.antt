@@ -70,7 +70,7 @@ off_one old new buf none_back one = record {
     before = omega (arith, none_back)
 
     after : returned old + 1 ≡ returned new
-    after = let e = ap (λ (x : TxDriven). length x.given + x.reclaimed) one.same in let f = length-append (cleaned old) (buf.number ∷ []) in omega arith
+    after = let e = ap (λ (x : TxDriven). length x.reaped + x.reclaimed) one.same in let f = length-append (cleaned old) (buf.number ∷ []) in omega arith
 
     item-is : slice_get (posted old) (returned old) ≡ Some one.item
     item-is = ap (slice_get (posted old)) before ∙ one.there
@@ -136,7 +136,7 @@ pub into_after : {a b c : DriverSide} {s t : List ℕ} → CleanedInto a s b t �
 into_after {a} {b} {c} {s} {t} p went = into_more p (record { numbers = []; went = went; out = same_out; stashed = refl })
   where
     same_out : out_of number_of_posting b ≡ out_of number_of_posting c
-    same_out = ap (λ (x : TxDriven). map number_of_posting (drop (length x.given + x.reclaimed) x.posted)) (sym (went.did ∙ sym (same_lists (driver_record b))))
+    same_out = ap (λ (x : TxDriven). map number_of_posting (drop (length x.reaped + x.reclaimed) x.posted)) (sym (went.did ∙ sym (same_lists (driver_record b))))
 
 -- Where cleaning ends
 module _ {old a b : DriverSide} {had s t : List ℕ} (into : CleanedInto old had a s) (up : CleanedUp a s b t) (goes : (new : DriverSide) (has : List ℕ) → Cleans a s new has → Cleans old had new has) (seen : seen_reported old ≤ seen_reported a) where

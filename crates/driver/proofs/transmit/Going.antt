@@ -14,17 +14,17 @@ use Rattle.driver.specs.transmit.Going.{WentOn, PostedAll, with_posted, with_cle
 use Rattle.driver.proofs.Running.{runs-none, runs-trans, runs-more}
 
 -- the record with other lists
-pub with_lists : (x : TxDriven) (ps qs : List Posting) (us vs : List ℕ) → ps ≡ qs → us ≡ vs → record x { posted = ps; given = us } ≡ record x { posted = qs; given = vs }
-with_lists x ps qs us vs e f = ap (λ (l : List Posting). record x { posted = l; given = us }) e ∙ ap (λ (l : List ℕ). record x { posted = qs; given = l }) f
+pub with_lists : (x : TxDriven) (ps qs : List Posting) (us vs : List ℕ) → ps ≡ qs → us ≡ vs → record x { posted = ps; reaped = us } ≡ record x { posted = qs; reaped = vs }
+with_lists x ps qs us vs e f = ap (λ (l : List Posting). record x { posted = l; reaped = us }) e ∙ ap (λ (l : List ℕ). record x { posted = qs; reaped = l }) f
 
-pub same_lists : (x : TxDriven) → x ≡ record x { posted = x.posted ++ []; given = x.given ++ [] }
-same_lists x = with_lists x x.posted (x.posted ++ []) x.given (x.given ++ []) (sym (append-nil x.posted)) (sym (append-nil x.given))
+pub same_lists : (x : TxDriven) → x ≡ record x { posted = x.posted ++ []; reaped = x.reaped ++ [] }
+same_lists x = with_lists x x.posted (x.posted ++ []) x.reaped (x.reaped ++ []) (sym (append-nil x.posted)) (sym (append-nil x.reaped))
 
-more_lists : (x y z : TxDriven) (xs ys : List Posting) (us vs : List ℕ) → y ≡ record x { posted = x.posted ++ xs; given = x.given ++ us } → z ≡ record y { posted = y.posted ++ ys; given = y.given ++ vs }
-    → z ≡ record x { posted = x.posted ++ (xs ++ ys); given = x.given ++ (us ++ vs) }
+more_lists : (x y z : TxDriven) (xs ys : List Posting) (us vs : List ℕ) → y ≡ record x { posted = x.posted ++ xs; reaped = x.reaped ++ us } → z ≡ record y { posted = y.posted ++ ys; reaped = y.reaped ++ vs }
+    → z ≡ record x { posted = x.posted ++ (xs ++ ys); reaped = x.reaped ++ (us ++ vs) }
 more_lists x y z xs ys us vs p q =
-    q ∙ ap (λ (r : TxDriven). record r { posted = r.posted ++ ys; given = r.given ++ vs }) p
-    ∙ with_lists x ((x.posted ++ xs) ++ ys) (x.posted ++ (xs ++ ys)) ((x.given ++ us) ++ vs) (x.given ++ (us ++ vs)) (append_assoc x.posted xs ys) (append_assoc x.given us vs)
+    q ∙ ap (λ (r : TxDriven). record r { posted = r.posted ++ ys; reaped = r.reaped ++ vs }) p
+    ∙ with_lists x ((x.posted ++ xs) ++ ys) (x.posted ++ (xs ++ ys)) ((x.reaped ++ us) ++ vs) (x.reaped ++ (us ++ vs)) (append_assoc x.posted xs ys) (append_assoc x.reaped us vs)
 
 module _ {kinds : DriverStep → Bool} where
   pub stood : (d : DriverSide) → WentOn kinds d [] [] d

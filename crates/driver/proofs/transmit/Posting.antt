@@ -70,7 +70,7 @@ module _ {paylen : ℕ} {rs : Bool} {packet : List Buffer} {old now : DriverSide
   begun_posted h = let e = ap (λ (x : TxDriven). length x.posted) h.went.did in let c = h.count in omega (arith, e, c, length-append {A = Posting})
 
   pub begun_returned : {rest : List Buffer} (h : FrameBegun paylen rs packet old rest now) → returned now ≡ returned old
-  begun_returned h = ap (λ (x : TxDriven). length x.given + x.reclaimed) h.went.did ∙ ap (λ l. length l + (driver_record old).reclaimed) (append-nil (cleaned old))
+  begun_returned h = ap (λ (x : TxDriven). length x.reaped + x.reclaimed) h.went.did ∙ ap (λ l. length l + (driver_record old).reclaimed) (append-nil (cleaned old))
 
   module _ (n : ℕ) (whole : IsPacket packet) (paylen_is : paylen ≡ length (bytes_of packet)) (short : length packet < n) (b : Buffer) (few : length b.bytes ≤ BUFFER_BYTES) where
     may_go_on : (c : Buffer) (bs : List Buffer) (h : FrameBegun paylen rs packet old (b ∷ c ∷ bs) now) → MayFollow n h.begun (item_of b false false paylen)

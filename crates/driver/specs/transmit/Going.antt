@@ -23,7 +23,7 @@ is_clean _ = false
 -- in the record changed, and neither did the known head.
 pub record WentOn (kinds : DriverStep → Bool) (old : DriverSide) (postings : List Posting) (numbers : List ℕ) (new : DriverSide) : Type 0 where
   pub runs : Runs kinds old new
-  pub did : driver_record new ≡ record (driver_record old) { posted = posted old ++ postings; given = cleaned old ++ numbers }
+  pub did : driver_record new ≡ record (driver_record old) { posted = posted old ++ postings; reaped = cleaned old ++ numbers }
   pub head : (known_of new).head ≡ (known_of old).head
 
 -- The end after these postings were made one after another. Each stores its descriptor at the next place, and its buffer

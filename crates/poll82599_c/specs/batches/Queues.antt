@@ -11,7 +11,7 @@ use Rattle.poll82599_c.specs.batches.Packets.{Worked}
 
 -- A driver of one direction: its end; the driver with another end; the number left, from a load of the head; that a
 -- disabled queue is empty; how buffers come back into a worker's stash; and how a new epoch begins
-pub record Kind {Ring Posted Served Given D C : Type 0} (form : Form Ring Posted Served Given D C) (Q : Type 0) : Type 1 where
+pub record Kind {Ring Posted Completed Reaped D C : Type 0} (form : Form Ring Posted Completed Reaped D C) (Q : Type 0) : Type 1 where
   pub end_of : Q → DriverSide form
   pub with_end : Q → DriverSide form → Q
   pub told_left : DriverSide form → Option ℕ
@@ -23,17 +23,17 @@ pub record Kind {Ring Posted Served Given D C : Type 0} (form : Form Ring Posted
 pub record Directed (Q : Type 0) : Type 1 where
   pub Ring : Type 0
   pub Posted : Type 0
-  pub Served : Type 0
-  pub Given : Type 0
+  pub Completed : Type 0
+  pub Reaped : Type 0
   pub D : Type 0
   pub C : Type 0
-  pub form : Form Ring Posted Served Given D C
+  pub form : Form Ring Posted Completed Reaped D C
   pub kind : Kind form Q
 
-abbrev pub directed : {Ring Posted Served Given D C : Type 0} {form : Form Ring Posted Served Given D C} {Q : Type 0} → Kind form Q → Directed Q
-directed {Ring} {Posted} {Served} {Given} {D} {C} {form} kind = record { Ring = Ring; Posted = Posted; Served = Served; Given = Given; D = D; C = C; form = form; kind = kind }
+abbrev pub directed : {Ring Posted Completed Reaped D C : Type 0} {form : Form Ring Posted Completed Reaped D C} {Q : Type 0} → Kind form Q → Directed Q
+directed {Ring} {Posted} {Completed} {Reaped} {D} {C} {form} kind = record { Ring = Ring; Posted = Posted; Completed = Completed; Reaped = Reaped; D = D; C = C; form = form; kind = kind }
 
-module _ {Ring Posted Served Given D C : Type 0} {form : Form Ring Posted Served Given D C} {Q : Type 0} (kind : Kind form Q) where
+module _ {Ring Posted Completed Reaped D C : Type 0} {form : Form Ring Posted Completed Reaped D C} {Q : Type 0} (kind : Kind form Q) where
   -- the queue is there before and after, and belongs to the same ring
   abbrev pub SameQueue : Option Q → Option Q → Type 0
   SameQueue = Between (λ old new. (kind.end_of new).table ≡ (kind.end_of old).table)

@@ -10,7 +10,7 @@ use Rattle.shared_ring.specs.Ends.{ControllerSide, DriverSide, controller_grown,
 use Rattle.shared_ring.specs.Forms.{Form}
 use Rattle.poll82599_c.specs.Held.{Between, OfBoth, Tried}
 
-module _ {Ring Posted Served Given D C : Type 0} {form : Form Ring Posted Served Given D C} where
+module _ {Ring Posted Completed Reaped D C : Type 0} {form : Form Ring Posted Completed Reaped D C} where
   -- if both are there, they are ends of one ring
   abbrev pub AreOfOne : Option (DriverSide form) → Option (ControllerSide form) → Type 0
   AreOfOne = OfBoth (λ d c. d.table ≡ c.table)

@@ -16,7 +16,7 @@ use Rattle.refusals.specs.declared.errors.MachineError.TheVariants as refusal
 use Rattle.ring_machine.specs.shared.Following.{count_of}
 use Rattle.ring_machine.specs.code.Sound.{IsSound}
 use Rattle.ring_machine.specs.shared.Machine.{told_owner}
-use Rattle.ring_machine.specs.receive.Machine.{RxAgrees, RxFollows, RxOwns, RxParts, RxRuns, lies_rx, says_rx}
+use Rattle.ring_machine.specs.receive.Machine.{RxAgrees, RxFollows, RxOwns, RxParts, RxRuns, buffer_rx, word_rx}
 use Rattle.ring_machine.specs.code.Receive.{rx_begun, rx_may, rx_moved, rx_told}
 use Rattle.ring_machine.proofs.shared.Running.{did-made, did-refused, kept-there, runs-answer, runs-append, runs-nil}
 use Rattle.ring_machine.proofs.shared.Shaking.{fits-begun}
@@ -51,7 +51,7 @@ rx_refuses p s sound may n r e a = let k = rx_meets p n r sound e a in did-refus
 
 -- a machine as it is made agrees with the opening ring
 pub rx_begun-agrees : (n : ℕ) (enabled : Bool) → 0 < n → RxAgrees (rx_begun n enabled) (rx_opening n enabled)
-rx_begun-agrees n enabled some = record { queue = fits-begun ends_segment says_rx lies_rx n enabled some; quiet = refl; still = refl }
+rx_begun-agrees n enabled some = record { queue = fits-begun ends_segment word_rx buffer_rx n enabled some; quiet = refl; still = refl }
 
 -- whatever a step answers, it is a schedule of one step, which is counted where it was made
 pub rx_runs-answer : (a b : RxParts) (s : RxStep ℕ) (told : Result Note MachineError) → RxFollows a s told b → RxRuns a (s ∷ []) (count_of told) b
@@ -69,4 +69,4 @@ rx_runs-append a b c ss more x y f g = runs-append RxAgrees (IsRxReachable ℕ) 
 
 pub rx_owns : (p : RxParts) (place : ℕ) → IsSound p.queue → place < p.queue.size → RxOwns p place (told_owner p.queue place)
 unfolding RxOwns
-rx_owns p place sound below n r e a = let k = rx_meets p n r sound e a in owns ends_segment says_rx lies_rx itself p.queue r.queue k.queue a.queue (named p r k a) place below
+rx_owns p place sound below n r e a = let k = rx_meets p n r sound e a in owns ends_segment word_rx buffer_rx itself p.queue r.queue k.queue a.queue (named p r k a) place below

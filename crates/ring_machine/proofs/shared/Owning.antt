@@ -6,11 +6,11 @@ use Rattle.std.proofs.Math.Nat.{mod-add-mod, add-mod_right}
 use Rattle.ring_model.specs.declared.states.Owner.{Owner}
 use Rattle.ring_model.specs.declared.states.Owner.TheVariants.{Driver, Ring, Controller}
 use Rattle.ring_model.specs.shared.Lawful.{IsLawfulMap}
-use Rattle.ring_model.specs.shared.Queue.{Queue, posted_count, served_count, returned_count, next_head}
+use Rattle.ring_model.specs.shared.Queue.{Queue, posted_count, completed_count, returned_count, next_head}
 use Rattle.ring_model.specs.shared.Agreement.{Agrees, Wrapped}
 use Rattle.ring_laws.specs.Places.{ahead}
 use Rattle.ring_model.specs.kept.Queues.{IsKept}
-use Rattle.ring_laws.specs.Queues.{held_below, returned_served}
+use Rattle.ring_laws.specs.Queues.{held_below, returned_completed}
 use Rattle.ring_machine.specs.shared.Machine.{told_owner}
 use Rattle.ring_machine.proofs.shared.PlaceTests.{and_same}
 use Rattle.ring_machine.proofs.shared.Telling.{AreNamed, held_serve_is, held_told, not_not}
@@ -57,11 +57,11 @@ module _ (n first serving past : ℕ) (held : Bool) (owners : List Owner) (pos :
       (if nat_lt ((place + n - first % n) % n) ((past % n + n - first % n) % n) then Ring else Driver))
   owner_told place below = rw length_is (chosen place below (held && (place == (serving % n))) (nat_lt ((place + n - first % n) % n) (past - first)) refl refl)
 
-module _ {Posted Served Given : Type 0} (ends : Served → Bool) (says : ℕ → Option Posted → Option Served → ℕ) (lies : Option Posted → Option Served → Option ℕ) (number : Posted → ℕ) where
-  pub owns : (w : Wrapped ℕ) (q : Queue Posted Served Given) → IsKept q.size ends q → Agrees {Given = Given} ends says lies w q → AreNamed ends says lies number q → (place : ℕ) → place < w.size → slice_get q.owners place ≡ Some (told_owner w place)
+module _ {Posted Completed Reaped : Type 0} (ends : Completed → Bool) (word_of_item : ℕ → Option Posted → Option Completed → ℕ) (buffer_of_item : Option Posted → Option Completed → Option ℕ) (number : Posted → ℕ) where
+  pub owns : (w : Wrapped ℕ) (q : Queue Posted Completed Reaped) → IsKept q.size ends q → Agrees {Reaped = Reaped} ends word_of_item buffer_of_item w q → AreNamed ends word_of_item buffer_of_item number q → (place : ℕ) → place < w.size → slice_get q.owners place ≡ Some (told_owner w place)
   owns w q k a named place below = let o = k.order in let size = a.size_is in let room = o.room in let some = k.places in
-      let inside : q.held ≡ true → (returned_count q ≤ served_count q) × (served_count q < posted_count q) = λ h. (returned_served q.size ends q k (o.held_serving h), held_below q.size ends q k h) in
-      let holds : not (is_none w.held) ≡ q.held = ap not (held_told ends says lies number w q k a named) ∙ not_not q.held in
+      let inside : q.held ≡ true → (returned_count q ≤ completed_count q) × (completed_count q < posted_count q) = λ h. (returned_completed q.size ends q k (o.held_serving h), held_below q.size ends q k h) in
+      let holds : not (is_none w.held) ≡ q.held = ap not (held_told ends word_of_item buffer_of_item number w q k a named) ∙ not_not q.held in
       let fetched : (not (is_none w.held) && (place == w.serve)) ≡ (q.held && (place == next_head q)) =
-      and_same (not (is_none w.held)) q.held (place == w.serve) (place == next_head q) holds (λ h. ap (λ (j : ℕ). place == j) (held_serve_is ends says lies number w q k a h)) in
-      rw fetched (rw (a.size_is, a.fill, a.next) (owner_told q.size (returned_count q) (served_count q) (posted_count q) q.held q.owners (omega arith) o.returned_posted (omega arith) k.map inside place (omega arith)))
+      and_same (not (is_none w.held)) q.held (place == w.serve) (place == next_head q) holds (λ h. ap (λ (j : ℕ). place == j) (held_serve_is ends word_of_item buffer_of_item number w q k a h)) in
+      rw fetched (rw (a.size_is, a.fill, a.next) (owner_told q.size (returned_count q) (completed_count q) (posted_count q) q.held q.owners (omega arith) o.returned_posted (omega arith) k.map inside place (omega arith)))

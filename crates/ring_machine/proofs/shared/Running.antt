@@ -13,7 +13,7 @@ use Rattle.refusals.specs.declared.errors.MachineError.TheVariants as refusal
 use Rattle.ring_machine.specs.shared.Following.{Did, Follows, Runs, count_of}
 
 -- no step changes how many places a queue has
-pub by-size : {Posted Served Given : Type 0} (q : Queue Posted Served Given) (s : QueueStep Posted Served Given) → (by q s).size ≡ q.size
+pub by-size : {Posted Completed Reaped : Type 0} (q : Queue Posted Completed Reaped) (s : QueueStep Posted Completed Reaped) → (by q s).size ≡ q.size
 by-size q (Post x) = refl
 by-size q _ = refl
 

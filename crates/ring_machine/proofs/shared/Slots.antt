@@ -47,13 +47,13 @@ empty-write owners slots n i who b ho hs below none empty place mine = let o = s
     (λ ne. s.rest place (omega arith) ne ∙ empty place (sym (o.rest place (omega arith) ne) ∙ mine))
     (cases_eq place i)
 
-none-lies : (n place : ℕ) → flat (slice_get (replicate n None) place) ≡ None
-none-lies zero place = refl
-none-lies (suc n) zero = refl
-none-lies (suc n) (suc place) = none-lies n place
+none-there : (n place : ℕ) → flat (slice_get (replicate n None) place) ≡ None
+none-there zero place = refl
+none-there (suc n) zero = refl
+none-there (suc n) (suc place) = none-there n place
 
 pub empty-begun : (n place : ℕ) → slot_at {X = ℕ} (replicate n None) place ≡ None
-empty-begun n place = slot_at-flat (replicate n None) place ∙ none-lies n place
+empty-begun n place = slot_at-flat (replicate n None) place ∙ none-there n place
 
 pub none_to-ring : {A : Type 0} → Ring ≡ Driver → A
 none_to-ring e = absurd (let bad : ⊥ = cc e in bad)

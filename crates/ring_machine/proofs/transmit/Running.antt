@@ -16,7 +16,7 @@ use Rattle.ring_machine.specs.shared.Following.{count_of}
 use Rattle.refusals.specs.declared.errors.MachineError.{MachineError}
 use Rattle.refusals.specs.declared.errors.MachineError.TheVariants as refusal
 use Rattle.ring_machine.specs.shared.Machine.{told_owner}
-use Rattle.ring_machine.specs.transmit.Machine.{TxAgrees, TxFollows, TxOwns, TxParts, TxRuns, lies_tx, says_tx}
+use Rattle.ring_machine.specs.transmit.Machine.{TxAgrees, TxFollows, TxOwns, TxParts, TxRuns, buffer_tx, word_tx}
 use Rattle.ring_machine.specs.code.Sound.{IsSound}
 use Rattle.ring_machine.specs.code.TxSound.{IsTxSound, StepFits}
 use Rattle.ring_machine.specs.code.Transmit.{tx_begun, tx_may, tx_moved, tx_told}
@@ -73,7 +73,7 @@ tx_refuses p s sound may n r e a = let k = tx_meets p n r sound.queue e a in did
 -- a machine as it is made agrees with the opening ring
 pub tx_begun-agrees : (n : ℕ) (b : TxBeginning) → 0 < n → TxAgrees (tx_begun n b) (tx_opening n b)
 tx_begun-agrees n b some = record {
-  queue = fits-begun ends_posting (says_tx (is_told {Payload = ℕ} (tx_opening n b))) lies_tx n b.enabled some;
+  queue = fits-begun ends_posting (word_tx (is_told {Payload = ℕ} (tx_opening n b))) buffer_tx n b.enabled some;
   completion = refl;
   report = λ e. sym (mod-eq_of_lt some);
   rep = sym (mod-eq_of_lt some);
@@ -98,4 +98,4 @@ tx_runs-append a b c ss more x y f g = runs-append TxAgrees (IsTxReachable ℕ) 
 
 pub tx_owns : (p : TxParts) (place : ℕ) → IsSound p.queue → place < p.queue.size → TxOwns p place (told_owner p.queue place)
 unfolding TxOwns
-tx_owns p place sound below n r e a = let k = tx_meets p n r sound e a in owns ends_posting (says_tx (is_told r)) lies_tx number_of_posting p.queue r.queue k.queue a.queue (named p r k a) place below
+tx_owns p place sound below n r e a = let k = tx_meets p n r sound e a in owns ends_posting (word_tx (is_told r)) buffer_tx number_of_posting p.queue r.queue k.queue a.queue (named p r k a) place below

@@ -7,7 +7,7 @@ use Rattle.ring_model.specs.shared.Agreement.{Agrees, Wrapped}
 use Rattle.ring_model.specs.receive.Ring.{RxRing}
 use Rattle.ring_model.specs.shared.Segments.{Segment, ends_segment}
 use Rattle.ring_model.specs.receive.Steps.{rx_can, rx_changed, rx_note_of, IsRxReachable}
-use Rattle.ring_model.specs.receive.Agreement.{rx_lies, rx_says}
+use Rattle.ring_model.specs.receive.Agreement.{rx_buffer_of_item, rx_word_of_item}
 use Rattle.refusals.specs.declared.errors.MachineError.{MachineError}
 use Rattle.ring_machine.specs.declared.machine.receive.RxMachine.TheInside.{Inside}
 use Rattle.ring_machine.specs.shared.Following.{Follows, Runs}
@@ -22,14 +22,14 @@ abbrev pub rx_parts_of : Inside → RxParts
 rx_parts_of m = record { queue = m.queue; quiet = m.quiet; still = m.still }
 
 -- A payload is its number of bytes, and a buffer its number.
-abbrev pub says_rx : ℕ → Option ℕ → Option (Segment ℕ) → ℕ
-says_rx = rx_says {Payload = ℕ} {Buffer = ℕ} (λ len. len) (λ b. b) (λ b len. b)
+abbrev pub word_rx : ℕ → Option ℕ → Option (Segment ℕ) → ℕ
+word_rx = rx_word_of_item {Payload = ℕ} {Buffer = ℕ} (λ len. len) (λ b. b) (λ b len. b)
 
-abbrev pub lies_rx : Option ℕ → Option (Segment ℕ) → Option ℕ
-lies_rx = rx_lies {Payload = ℕ} {Buffer = ℕ} (λ len. len) (λ b. b) (λ b len. b)
+abbrev pub buffer_rx : Option ℕ → Option (Segment ℕ) → Option ℕ
+buffer_rx = rx_buffer_of_item {Payload = ℕ} {Buffer = ℕ} (λ len. len) (λ b. b) (λ b len. b)
 
 pub record RxAgrees (p : RxParts) (r : RxRing ℕ) : Type 0 where
-  pub queue : Agrees {Given = Segment ℕ} ends_segment says_rx lies_rx p.queue r.queue
+  pub queue : Agrees {Reaped = Segment ℕ} ends_segment word_rx buffer_rx p.queue r.queue
   pub quiet : p.quiet ≡ r.quiet
   pub still : p.still ≡ r.still
 

@@ -8,7 +8,7 @@ use Rattle.ring_model.specs.shared.Queue.{returned_count}
 use Rattle.ring_model.specs.shared.Agreement.{Agrees, Wrapped}
 use Rattle.ring_model.specs.transmit.Ring.{Posting, TxRing, are_whole, ends_posting}
 use Rattle.ring_model.specs.transmit.Steps.{by_head, tx_can, tx_changed, tx_note_of, IsTxReachable}
-use Rattle.ring_model.specs.transmit.Agreement.{is_told, tx_lies, tx_says}
+use Rattle.ring_model.specs.transmit.Agreement.{is_told, tx_buffer_of_item, tx_word_of_item}
 use Rattle.refusals.specs.declared.errors.MachineError.{MachineError}
 use Rattle.ring_machine.specs.declared.machine.transmit.TxMachine.TheInside.{Inside}
 use Rattle.ring_machine.specs.shared.Following.{Follows, Runs}
@@ -26,14 +26,14 @@ abbrev pub tx_parts_of : Inside → TxParts
 tx_parts_of m = record { queue = m.queue; completion = m.completion; report = m.report; rep = m.rep; ends = m.ends; owed = m.owed }
 
 -- A payload is its number of bytes, and a buffer its number. `told` says whether an item's report is in its descriptor.
-abbrev pub says_tx : (ℕ → Bool) → ℕ → Option (Posting ℕ) → Option (Posting ℕ) → ℕ
-says_tx = tx_says {Payload = ℕ} {Buffer = ℕ} (λ len. len) (λ b. b.number)
+abbrev pub word_tx : (ℕ → Bool) → ℕ → Option (Posting ℕ) → Option (Posting ℕ) → ℕ
+word_tx = tx_word_of_item {Payload = ℕ} {Buffer = ℕ} (λ len. len) (λ b. b.number)
 
-abbrev pub lies_tx : Option (Posting ℕ) → Option (Posting ℕ) → Option ℕ
-lies_tx = tx_lies {Payload = ℕ} {Buffer = ℕ} (λ len. len) (λ b. b.number)
+abbrev pub buffer_tx : Option (Posting ℕ) → Option (Posting ℕ) → Option ℕ
+buffer_tx = tx_buffer_of_item {Payload = ℕ} {Buffer = ℕ} (λ len. len) (λ b. b.number)
 
 pub record TxAgrees (p : TxParts) (r : TxRing ℕ) : Type 0 where
-  pub queue : Agrees {Given = ℕ} ends_posting (says_tx (is_told r)) lies_tx p.queue r.queue
+  pub queue : Agrees {Reaped = ℕ} ends_posting (word_tx (is_told r)) buffer_tx p.queue r.queue
   pub completion : p.completion ≡ r.completion
   pub report : by_head r.completion ≡ true → p.report ≡ r.reported % r.size
   pub rep : p.rep ≡ r.seen_reported % r.size

@@ -20,7 +20,7 @@ use ring_model::{ControlStep, DriverState, Handshake, Owner, place_after, places
 use std::alloc::Global;
 use std::marker::Model;
 
-/// The common part of a receive and a transmit queue's machine. It has no lists of posted, served and returned items:
+/// The common part of a receive and a transmit queue's machine. It has no lists of posted, completed and returned items:
 /// these belong to the ring that it agrees with.
 #[derive(Drop)]
 pub struct QueueMachine {
@@ -104,11 +104,12 @@ impl QueueMachine {
     pub fn registers(&self, side: Side) -> Registers
         ensures { result ≡ registers_held side self.now }
     {
+        let control = self.handshake.control;
         Registers {
             side,
             head: self.head,
             tail: self.tail,
-            enable: self.handshake.controller.is_serving(),
+            enable: control == 2 || control == 3,
         }
     }
 
@@ -119,7 +120,7 @@ impl QueueMachine {
         self.held
     }
 
-    /// Whether the last served segment ends a frame, or nothing was served.
+    /// Whether the last completed segment ends a frame, or nothing was completed.
     pub fn is_whole(&self) -> bool
         ensures { result ≡ self.now.whole }
     {

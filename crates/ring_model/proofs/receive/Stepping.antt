@@ -11,18 +11,18 @@ use Rattle.ring_model.specs.declared.steps.RxStep.{RxStep}
 use Rattle.ring_model.specs.declared.steps.RxStep.TheVariants as rx
 use Rattle.ring_model.specs.shared.Handshakes.{is_live, is_serving, can_enable, enable, disable, shaken, enables}
 use Rattle.ring_model.specs.shared.Lists.{IsBeginning}
-use Rattle.ring_model.specs.shared.QueueSteps.{QueueStep, Post, Publish, Look, Fetch, Serve, Head, Give, Shake, Reclaim, ClearHead, ClearTail, Renew}
-use Rattle.ring_model.specs.shared.Queue.{posted_count, served_count, given_count, may, by}
+use Rattle.ring_model.specs.shared.QueueSteps.{QueueStep, Post, Publish, Look, Fetch, Complete, Head, Reap, Shake, Reclaim, ClearHead, ClearTail, Renew}
+use Rattle.ring_model.specs.shared.Queue.{posted_count, completed_count, reaped_count, may, by}
 use Rattle.ring_model.specs.receive.Ring.{RxLedger, RxRing, rx_opening, due, is_whole, next_segment}
 use Rattle.ring_model.specs.shared.Segments.{Segment, ends_segment, number_of_segment}
 use Rattle.ring_model.specs.receive.Steps.{rx_can, rx_changed, rx_settled, took}
 use Rattle.ring_model.specs.receive.Lawful.{IsLawfulRxLedger}
-use Rattle.ring_model.specs.receive.Laws.{rx_over}
+use Rattle.ring_model.specs.receive.Laws.{rx_quiesced}
 use Rattle.ring_model.specs.kept.Queues.{IsKept}
 use Rattle.ring_model.proofs.shared.Beginnings.{beginning-append, beginning-snoc, numbers-snoc, slice_get-snoc}
 use Rattle.ring_model.proofs.shared.Stepping.{kept-opening, kept-by, held_below}
 use Rattle.ring_model.specs.kept.Receive.{IsRxKept}
-use Rattle.ring_model.proofs.receive.Over.{over-quiet, over-close, over-shake, over-still}
+use Rattle.ring_model.proofs.receive.Quiesced.{quiesced-quiet, quiesced-close, quiesced-shake, quiesced-still}
 
 pub rx_kept-opening : {Payload : Type 0} (n : ℕ) (enabled : Bool) → 1 < n → IsRxKept Payload n (rx_opening n enabled)
 rx_kept-opening n enabled h = record {
@@ -43,8 +43,8 @@ module _ {Payload : Type 0} (n : ℕ) (r : RxRing Payload) (k : IsRxKept Payload
   rx_ledger = let q = k.queue in let o = q.order in let h = o.room in let p = q.places in record { taken = k.taken; stored = k.stored; room = omega arith }
 
   -- a step that leaves what is stored, the handshake and what is held
-  rx_kept-lists : (s : QueueStep ℕ (Segment Payload) (Segment Payload)) → IsKept n ends_segment (by r.queue s) → IsBeginning (by r.queue s).ledger.given (by r.queue s).ledger.served → IsBeginning (map number_of_segment (by r.queue s).ledger.served) (by r.queue s).ledger.posted
-      → (by r.queue s).ledger.served ≡ r.ledger.served → (by r.queue s).past ≡ r.past → (by r.queue s).handshake ≡ r.handshake → (r.still ≡ true → (by r.queue s).held ≡ false) → IsRxKept Payload n (record r { queue = by r.queue s })
+  rx_kept-lists : (s : QueueStep ℕ (Segment Payload) (Segment Payload)) → IsKept n ends_segment (by r.queue s) → IsBeginning (by r.queue s).ledger.reaped (by r.queue s).ledger.completed → IsBeginning (map number_of_segment (by r.queue s).ledger.completed) (by r.queue s).ledger.posted
+      → (by r.queue s).ledger.completed ≡ r.ledger.completed → (by r.queue s).past ≡ r.past → (by r.queue s).handshake ≡ r.handshake → (r.still ≡ true → (by r.queue s).held ≡ false) → IsRxKept Payload n (record r { queue = by r.queue s })
   rx_kept-lists s kept taken stored l p h rest = record {
     queue = kept;
     taken = taken;
@@ -58,18 +58,18 @@ module _ {Payload : Type 0} (n : ℕ) (r : RxRing Payload) (k : IsRxKept Payload
   }
 
   rx_kept-post : (b : ℕ) → may r.queue (Post b) ≡ true → IsRxKept Payload n (record r { queue = by r.queue (Post b) })
-  rx_kept-post b e = rx_kept-lists (Post b) (kept-by n ends_segment r.queue k.queue (Post b) tt e) k.taken (beginning-append (map number_of_segment r.ledger.served) r.ledger.posted (b ∷ []) k.stored) refl refl refl k.at_rest
+  rx_kept-post b e = rx_kept-lists (Post b) (kept-by n ends_segment r.queue k.queue (Post b) tt e) k.taken (beginning-append (map number_of_segment r.ledger.completed) r.ledger.posted (b ∷ []) k.stored) refl refl refl k.at_rest
 
   -- a step that leaves the ledger, the handshake and what is held
   rx_kept-rest : (s : QueueStep ℕ (Segment Payload) (Segment Payload)) → IsKept n ends_segment (by r.queue s) → (by r.queue s).ledger ≡ r.ledger → (by r.queue s).past ≡ r.past → (by r.queue s).handshake ≡ r.handshake
       → (r.still ≡ true → (by r.queue s).held ≡ false) → IsRxKept Payload n (record r { queue = by r.queue s })
-  rx_kept-rest s kept l p h rest = rx_kept-lists s kept (rw l k.taken) (rw l k.stored) (ap (λ (x : RxLedger Payload). x.served) l) p h rest
+  rx_kept-rest s kept l p h rest = rx_kept-lists s kept (rw l k.taken) (rw l k.stored) (ap (λ (x : RxLedger Payload). x.completed) l) p h rest
 
-  rx_kept-store : (x : Payload) (eop : Bool) → r.held ≡ true → IsRxKept Payload n (record r { queue = by r.queue (Serve (next_segment r x eop)) })
+  rx_kept-store : (x : Payload) (eop : Bool) → r.held ≡ true → IsRxKept Payload n (record r { queue = by r.queue (Complete (next_segment r x eop)) })
   rx_kept-store x eop e = let s : Segment Payload = next_segment r x eop in record {
-    queue = kept-by n ends_segment r.queue k.queue (Serve s) tt e;
-    taken = beginning-append r.ledger.given r.ledger.served (s ∷ []) k.taken;
-    stored = numbers-snoc r.ledger.served r.ledger.posted s k.stored (held_below n ends_segment r.queue k.queue e) refl;
+    queue = kept-by n ends_segment r.queue k.queue (Complete s) tt e;
+    taken = beginning-append r.ledger.reaped r.ledger.completed (s ∷ []) k.taken;
+    stored = numbers-snoc r.ledger.completed r.ledger.posted s k.stored (held_below n ends_segment r.queue k.queue e) refl;
     past = k.past;
     at_rest = λ f. refl;
     finished = λ serving f. absurd (both_ways r.held (k.at_rest f) e);
@@ -80,9 +80,9 @@ module _ {Payload : Type 0} (n : ℕ) (r : RxRing Payload) (k : IsRxKept Payload
 
   rx_kept-took : (found : Option (Segment Payload)) → due r ≡ found → is_live r.handshake.driver ≡ true → IsRxKept Payload n (took r found)
   rx_kept-took None e live = k
-  rx_kept-took (Some s) e live = let more = slice_get_within r.ledger.served (given_count r.queue) s e in
-      rx_kept-lists (Give s) (kept-by n ends_segment r.queue k.queue (Give s) tt (and_from (is_live r.handshake.driver) (nat_lt (given_count r.queue) (served_count r.queue)) live (lt-ltb (given_count r.queue) (served_count r.queue) more)))
-      (beginning-snoc r.ledger.given r.ledger.served s k.taken e) k.stored refl refl refl k.at_rest
+  rx_kept-took (Some s) e live = let more = slice_get_within r.ledger.completed (reaped_count r.queue) s e in
+      rx_kept-lists (Reap s) (kept-by n ends_segment r.queue k.queue (Reap s) tt (and_from (is_live r.handshake.driver) (nat_lt (reaped_count r.queue) (completed_count r.queue)) live (lt-ltb (reaped_count r.queue) (completed_count r.queue) more)))
+      (beginning-snoc r.ledger.reaped r.ledger.completed s k.taken e) k.stored refl refl refl k.at_rest
 
   -- a controller that serves after its answer was enabled by it, and then it isn't still
   answered_still : (on : Bool) → is_serving (if on then enable r.handshake else disable r.handshake).controller ≡ true → (not on && r.still) ≡ true → is_whole r ≡ true
@@ -105,8 +105,8 @@ module _ {Payload : Type 0} (n : ℕ) (r : RxRing Payload) (k : IsRxKept Payload
     at_rest = λ f. let t = and_parts (not (enables r.handshake c)) r.still f in k.at_rest t.1;
     finished = finished-shake c;
     bit = k.bit;
-    quiet = λ f. over-shake n r k c e (k.quiet f);
-    said = λ f. over-still n r k c (k.quiet f) (k.said f);
+    quiet = λ f. quiesced-shake n r k c e (k.quiet f);
+    said = λ f. quiesced-still n r k c (k.quiet f) (k.said f);
   }
 
   rx_kept-quiet : rx_can r rx.StoreQuiet ≡ true → IsRxKept Payload n (rx_changed r rx.StoreQuiet)
@@ -118,12 +118,12 @@ module _ {Payload : Type 0} (n : ℕ) (r : RxRing Payload) (k : IsRxKept Payload
     at_rest = λ f. not-true r.held u.1;
     finished = λ serving f. t.1;
     bit = omega arith;
-    quiet = λ f. over-quiet r.handshake true u.0 refl;
+    quiet = λ f. quiesced-quiet r.handshake true u.0 refl;
     said = λ f. refl;
   }
 
   rx_kept-clear : (s : QueueStep ℕ (Segment Payload) (Segment Payload)) (g : Handshake) → IsKept n ends_segment (by r.queue s) → (by r.queue s).ledger ≡ r.ledger → (by r.queue s).past ≡ r.past → (by r.queue s).held ≡ r.held
-      → (by r.queue s).handshake ≡ g → g.controller ≡ r.handshake.controller → (rx_over r ≡ true → rx_over (record r { queue = by r.queue s }) ≡ true) → IsRxKept Payload n (record r { queue = by r.queue s })
+      → (by r.queue s).handshake ≡ g → g.controller ≡ r.handshake.controller → (rx_quiesced r ≡ true → rx_quiesced (record r { queue = by r.queue s }) ≡ true) → IsRxKept Payload n (record r { queue = by r.queue s })
   rx_kept-clear s g kept l p held h c stays = record {
     queue = kept;
     taken = rw l k.taken;
@@ -160,14 +160,14 @@ module _ {Payload : Type 0} (n : ℕ) (r : RxRing Payload) (k : IsRxKept Payload
   rx_kept-changed rx.Fetch e = let t = and_parts (may r.queue Fetch) (not r.still) e in
       rx_kept-rest Fetch (kept-by n ends_segment r.queue k.queue Fetch tt t.0) refl refl refl (λ f. absurd (both_ways r.still (not-true r.still t.1) f))
   rx_kept-changed (rx.Store x eop) e = rx_kept-store x eop e
-  rx_kept-changed rx.Take e = let t = and_parts (is_live r.handshake.driver) (nat_lt (given_count r.queue) (posted_count r.queue)) e in rx_kept-took (due r) refl t.0
+  rx_kept-changed rx.Take e = let t = and_parts (is_live r.handshake.driver) (nat_lt (reaped_count r.queue) (posted_count r.queue)) e in rx_kept-took (due r) refl t.0
   rx_kept-changed rx.Head e = rx_kept-rest Head (kept-by n ends_segment r.queue k.queue Head tt e) refl refl refl k.at_rest
   rx_kept-changed (rx.Control c) e = rx_kept-control c e
   rx_kept-changed rx.Reclaim e = rx_kept-rest Reclaim (kept-by n ends_segment r.queue k.queue Reclaim tt e) refl refl refl k.at_rest
   rx_kept-changed rx.StoreQuiet e = rx_kept-quiet e
   rx_kept-changed rx.LoadQuiet e = k
   rx_kept-changed rx.ClearHead e = rx_kept-clear ClearHead (record r.handshake { driver = Cleared }) (kept-by n ends_segment r.queue k.queue ClearHead tt e) refl refl refl refl refl
-      (λ f. over-close r.handshake (record r.handshake { driver = Cleared }) r.still refl refl f)
+      (λ f. quiesced-close r.handshake (record r.handshake { driver = Cleared }) r.still refl refl f)
   rx_kept-changed rx.ClearTail e = rx_kept-clear ClearTail (record r.handshake { driver = Tailed }) (kept-by n ends_segment r.queue k.queue ClearTail tt e) refl refl refl refl refl
-      (λ f. over-close r.handshake (record r.handshake { driver = Tailed }) r.still refl refl f)
+      (λ f. quiesced-close r.handshake (record r.handshake { driver = Tailed }) r.still refl refl f)
   rx_kept-changed rx.ClearQuiet e = rx_kept-renew e

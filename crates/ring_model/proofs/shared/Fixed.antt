@@ -5,8 +5,8 @@ use Rattle.std.proofs.lemmas.Bool.{cases_Bool, both_ways, and_parts, or_cases, n
 use Rattle.ring_model.specs.declared.steps.ControlStep.{ControlStep}
 use Rattle.ring_model.specs.declared.steps.ControlStep.TheVariants.{AskEnable, LookAsked, Answer, LookAnswered, AskDisable}
 use Rattle.ring_model.specs.shared.Handshakes.{is_open, is_live, is_answered, is_serving, can_enable, enable, can_disable, disable, may_shake, shaken, enables, has_ended}
-use Rattle.ring_model.specs.shared.QueueSteps.{QueueStep, Post, Publish, Look, Fetch, Serve, Head, Give, Shake, Reclaim, ClearHead, ClearTail, Renew}
-use Rattle.ring_model.specs.shared.Queue.{Ledger, Queue, posted_count, served_count, given_count, may, by}
+use Rattle.ring_model.specs.shared.QueueSteps.{QueueStep, Post, Publish, Look, Fetch, Complete, Head, Reap, Shake, Reclaim, ClearHead, ClearTail, Renew}
+use Rattle.ring_model.specs.shared.Queue.{Ledger, Queue, posted_count, completed_count, reaped_count, may, by}
 use Rattle.ring_model.specs.shared.Laws.{IsGrown, SameEpoch, Later}
 use Rattle.ring_model.specs.kept.Queues.{IsKept}
 use Rattle.ring_model.proofs.shared.Shakes.{new_open, on_open, live_unanswered, open_unanswered, shakes-enable, shakes-disable, learned_open, learned_answered}
@@ -14,7 +14,7 @@ use Rattle.ring_model.proofs.shared.Beginnings.{beginning-refl, beginning-trans,
 use Rattle.ring_model.proofs.shared.Stepping.{shook, unended, open_unended}
 
 -- an epoch that has ended stays so, whatever the handshake does
-module _ {Posted Served Given : Type 0} (n : ℕ) (ends : Served → Bool) (q : Queue Posted Served Given) (k : IsKept n ends q) where
+module _ {Posted Completed Reaped : Type 0} (n : ℕ) (ends : Completed → Bool) (q : Queue Posted Completed Reaped) (k : IsKept n ends q) where
   enable_open : can_enable q.handshake ≡ true → is_open q.handshake.driver ≡ true
   enable_open e = let h = q.handshake in let t = and_parts (h.seen == 1) (not (is_serving h.controller)) e in
       let s = shakes-enable h.driver h.controller h.control h.seen (eqb-true h.seen 1 t.0) (shook n ends q k) in s.1
@@ -41,20 +41,20 @@ module _ {Posted Served Given : Type 0} (n : ℕ) (ends : Served → Bool) (q : 
       never false = refl
 
   pub ended-shake : (c : ControlStep) (settled : Bool) → may_shake q.handshake c settled ≡ true → has_ended q.handshake ≡ true → has_ended (shaken q.handshake c) ≡ true
-  ended-shake AskEnable settled e over = absurd (open_unended q.handshake (new_open q.handshake.driver e) over)
-  ended-shake LookAsked settled e over = over
-  ended-shake Answer settled e over = ⊎_elim (λ a. absurd (open_unended q.handshake (enable_open a) over))
-      (λ b. let t = and_parts (q.handshake.seen == 3) (is_serving q.handshake.controller) b in absurd (unended q.handshake t.1 over)) (answers settled e)
-  ended-shake LookAnswered settled e over = rw (learned_open q.handshake.driver q.handshake.control) over
-  ended-shake AskDisable settled e over = absurd (open_unended q.handshake (on_open q.handshake.driver e) over)
+  ended-shake AskEnable settled e quiesced = absurd (open_unended q.handshake (new_open q.handshake.driver e) quiesced)
+  ended-shake LookAsked settled e quiesced = quiesced
+  ended-shake Answer settled e quiesced = ⊎_elim (λ a. absurd (open_unended q.handshake (enable_open a) quiesced))
+      (λ b. let t = and_parts (q.handshake.seen == 3) (is_serving q.handshake.controller) b in absurd (unended q.handshake t.1 quiesced)) (answers settled e)
+  ended-shake LookAnswered settled e quiesced = rw (learned_open q.handshake.driver q.handshake.control) quiesced
+  ended-shake AskDisable settled e quiesced = absurd (open_unended q.handshake (on_open q.handshake.driver e) quiesced)
 
   -- one that has ended answers no enabling
   pub ended-enables : (c : ControlStep) → has_ended q.handshake ≡ true → enables q.handshake c ≡ false
-  ended-enables AskEnable over = refl
-  ended-enables LookAsked over = refl
-  ended-enables Answer over = ⊎_elim (λ a. absurd (open_unended q.handshake (enable_open a) over)) (λ no. no) (cases_Bool (can_enable q.handshake))
-  ended-enables LookAnswered over = refl
-  ended-enables AskDisable over = refl
+  ended-enables AskEnable quiesced = refl
+  ended-enables LookAsked quiesced = refl
+  ended-enables Answer quiesced = ⊎_elim (λ a. absurd (open_unended q.handshake (enable_open a) quiesced)) (λ no. no) (cases_Bool (can_enable q.handshake))
+  ended-enables LookAnswered quiesced = refl
+  ended-enables AskDisable quiesced = refl
 
   -- a controller that serves goes on serving, or has ended
   pub serving-shake : (c : ControlStep) (settled : Bool) → may_shake q.handshake c settled ≡ true → is_serving q.handshake.controller ≡ true
@@ -74,94 +74,94 @@ module _ {Posted Served Given : Type 0} (n : ℕ) (ends : Served → Bool) (q : 
   serving-enables LookAnswered serving = refl
   serving-enables AskDisable serving = refl
 
-module _ {Posted Served Given : Type 0} where
-  pub grown-refl : (l : Ledger Posted Served Given) → IsGrown l l
-  grown-refl l = record { posted = beginning-refl l.posted; served = beginning-refl l.served; given = beginning-refl l.given }
+module _ {Posted Completed Reaped : Type 0} where
+  pub grown-refl : (l : Ledger Posted Completed Reaped) → IsGrown l l
+  grown-refl l = record { posted = beginning-refl l.posted; completed = beginning-refl l.completed; reaped = beginning-refl l.reaped }
 
-  grown-trans : (a b c : Ledger Posted Served Given) → IsGrown a b → IsGrown b c → IsGrown a c
+  grown-trans : (a b c : Ledger Posted Completed Reaped) → IsGrown a b → IsGrown b c → IsGrown a c
   grown-trans a b c g h = record {
     posted = beginning-trans a.posted b.posted c.posted g.posted h.posted;
-    served = beginning-trans a.served b.served c.served g.served h.served;
-    given = beginning-trans a.given b.given c.given g.given h.given;
+    completed = beginning-trans a.completed b.completed c.completed g.completed h.completed;
+    reaped = beginning-trans a.reaped b.reaped c.reaped g.reaped h.reaped;
   }
 
   -- a step that leaves the lists
-  pub same-lists : (q later : Queue Posted Served Given) (over still_over : Bool) → later.past ≡ q.past → later.ledger ≡ q.ledger → (is_open q.handshake.driver ≡ false → is_open later.handshake.driver ≡ false) → (over ≡ true → still_over ≡ true)
-      → (is_answered q.handshake.driver ≡ true → is_answered later.handshake.driver ≡ true) → SameEpoch q over later still_over
-  same-lists q later over still_over p l a b c = record {
+  pub same-lists : (q later : Queue Posted Completed Reaped) (quiesced still_quiesced : Bool) → later.past ≡ q.past → later.ledger ≡ q.ledger → (is_open q.handshake.driver ≡ false → is_open later.handshake.driver ≡ false) → (quiesced ≡ true → still_quiesced ≡ true)
+      → (is_answered q.handshake.driver ≡ true → is_answered later.handshake.driver ≡ true) → SameEpoch q quiesced later still_quiesced
+  same-lists q later quiesced still_quiesced p l a b c = record {
     past = p;
-    grown = subst (λ (m : Ledger Posted Served Given). IsGrown q.ledger m) (sym l) (grown-refl q.ledger);
+    grown = subst (λ (m : Ledger Posted Completed Reaped). IsGrown q.ledger m) (sym l) (grown-refl q.ledger);
     posted = λ e. (ap (λ m. m.posted) l, a e);
-    served = λ e. (ap (λ m. m.served) l, b e);
-    given = λ e. (ap (λ m. m.given) l, c e);
+    completed = λ e. (ap (λ m. m.completed) l, b e);
+    reaped = λ e. (ap (λ m. m.reaped) l, c e);
   }
 
-  pub later-refl : (q : Queue Posted Served Given) (over : Bool) → Later q over q over
-  later-refl q over = inr (same-lists q q over over refl refl (λ e. e) (λ e. e) (λ e. e))
+  pub later-refl : (q : Queue Posted Completed Reaped) (quiesced : Bool) → Later q quiesced q quiesced
+  later-refl q quiesced = inr (same-lists q q quiesced quiesced refl refl (λ e. e) (λ e. e) (λ e. e))
 
-  then_same : (a b c : Queue Posted Served Given) (oa ob oc : Bool) → SameEpoch a oa b ob → SameEpoch b ob c oc → SameEpoch a oa c oc
+  then_same : (a b c : Queue Posted Completed Reaped) (oa ob oc : Bool) → SameEpoch a oa b ob → SameEpoch b ob c oc → SameEpoch a oa c oc
   then_same a b c oa ob oc s t = record {
     past = t.past ∙ s.past;
     grown = grown-trans a.ledger b.ledger c.ledger s.grown t.grown;
     posted = λ e. let p = s.posted e in let u = t.posted p.1 in (u.0 ∙ p.0, u.1);
-    served = λ e. let p = s.served e in let u = t.served p.1 in (u.0 ∙ p.0, u.1);
-    given = λ e. let p = s.given e in let u = t.given p.1 in (u.0 ∙ p.0, u.1);
+    completed = λ e. let p = s.completed e in let u = t.completed p.1 in (u.0 ∙ p.0, u.1);
+    reaped = λ e. let p = s.reaped e in let u = t.reaped p.1 in (u.0 ∙ p.0, u.1);
   }
 
-  pub later-trans : (a b c : Queue Posted Served Given) (oa ob oc : Bool) → Later a oa b ob → Later b ob c oc → Later a oa c oc
+  pub later-trans : (a b c : Queue Posted Completed Reaped) (oa ob oc : Bool) → Later a oa b ob → Later b ob c oc → Later a oa c oc
   later-trans a b c oa ob oc (inl x) (inl y) = inl (record {
     ended = x.ended;
     more = x.more ++ y.ended ∷ y.more;
     past = sym (append_assoc a.past (x.ended ∷ x.more) (y.ended ∷ y.more)) ∙ ap (λ p. p ++ y.ended ∷ y.more) x.past ∙ y.past;
     grown = x.grown;
     posted = x.posted;
-    served = x.served;
-    given = x.given;
+    completed = x.completed;
+    reaped = x.reaped;
   })
-  later-trans a b c oa ob oc (inl x) (inr t) = inl (record { ended = x.ended; more = x.more; past = x.past ∙ sym t.past; grown = x.grown; posted = x.posted; served = x.served; given = x.given })
+  later-trans a b c oa ob oc (inl x) (inr t) = inl (record { ended = x.ended; more = x.more; past = x.past ∙ sym t.past; grown = x.grown; posted = x.posted; completed = x.completed; reaped = x.reaped })
   later-trans a b c oa ob oc (inr s) (inl y) = inl (record {
     ended = y.ended;
     more = y.more;
     past = ap (λ p. p ++ y.ended ∷ y.more) (sym s.past) ∙ y.past;
     grown = grown-trans a.ledger b.ledger y.ended s.grown y.grown;
     posted = λ e. let p = s.posted e in y.posted p.1 ∙ p.0;
-    served = λ e. let p = s.served e in y.served p.1 ∙ p.0;
-    given = λ e. let p = s.given e in y.given p.1 ∙ p.0;
+    completed = λ e. let p = s.completed e in y.completed p.1 ∙ p.0;
+    reaped = λ e. let p = s.reaped e in y.reaped p.1 ∙ p.0;
   })
   later-trans a b c oa ob oc (inr s) (inr t) = inr (then_same a b c oa ob oc s t)
 
   -- what a ring has to know of its own sign that its controller is over
-  abbrev pub Stays : QueueStep Posted Served Given → Bool → Bool → Type 0
-  Stays (Serve x) over still_over = over ≡ false
-  Stays Renew over still_over = Unit {0}
-  Stays _ over still_over = over ≡ true → still_over ≡ true
+  abbrev pub Stays : QueueStep Posted Completed Reaped → Bool → Bool → Type 0
+  Stays (Complete x) quiesced still_quiesced = quiesced ≡ false
+  Stays Renew quiesced still_quiesced = Unit {0}
+  Stays _ quiesced still_quiesced = quiesced ≡ true → still_quiesced ≡ true
 
-  module _ (q : Queue Posted Served Given) (over still_over : Bool) where
-    same-post : (x : Posted) → may q (Post x) ≡ true → (over ≡ true → still_over ≡ true) → SameEpoch q over (by q (Post x)) still_over
-    same-post x e stays = let t = and_parts (is_open q.handshake.driver) (nat_lt (posted_count q - given_count q) (q.size - 1)) e in record {
+  module _ (q : Queue Posted Completed Reaped) (quiesced still_quiesced : Bool) where
+    same-post : (x : Posted) → may q (Post x) ≡ true → (quiesced ≡ true → still_quiesced ≡ true) → SameEpoch q quiesced (by q (Post x)) still_quiesced
+    same-post x e stays = let t = and_parts (is_open q.handshake.driver) (nat_lt (posted_count q - reaped_count q) (q.size - 1)) e in record {
       past = refl;
-      grown = record { posted = beginning-append q.ledger.posted q.ledger.posted (x ∷ []) (beginning-refl q.ledger.posted); served = beginning-refl q.ledger.served; given = beginning-refl q.ledger.given };
+      grown = record { posted = beginning-append q.ledger.posted q.ledger.posted (x ∷ []) (beginning-refl q.ledger.posted); completed = beginning-refl q.ledger.completed; reaped = beginning-refl q.ledger.reaped };
       posted = λ f. absurd (both_ways (is_open q.handshake.driver) f t.0);
-      served = λ f. (refl, stays f);
-      given = λ f. (refl, f);
+      completed = λ f. (refl, stays f);
+      reaped = λ f. (refl, f);
     }
 
-    same-serve : (x : Served) → over ≡ false → SameEpoch q over (by q (Serve x)) still_over
-    same-serve x none = record {
+    same-complete : (x : Completed) → quiesced ≡ false → SameEpoch q quiesced (by q (Complete x)) still_quiesced
+    same-complete x none = record {
       past = refl;
-      grown = record { posted = beginning-refl q.ledger.posted; served = beginning-append q.ledger.served q.ledger.served (x ∷ []) (beginning-refl q.ledger.served); given = beginning-refl q.ledger.given };
+      grown = record { posted = beginning-refl q.ledger.posted; completed = beginning-append q.ledger.completed q.ledger.completed (x ∷ []) (beginning-refl q.ledger.completed); reaped = beginning-refl q.ledger.reaped };
       posted = λ f. (refl, f);
-      served = λ f. absurd (both_ways over none f);
-      given = λ f. (refl, f);
+      completed = λ f. absurd (both_ways quiesced none f);
+      reaped = λ f. (refl, f);
     }
 
-    same-give : (x : Given) → may q (Give x) ≡ true → (over ≡ true → still_over ≡ true) → SameEpoch q over (by q (Give x)) still_over
-    same-give x e stays = let t = and_parts (is_live q.handshake.driver) (nat_lt (given_count q) (served_count q)) e in record {
+    same-reap : (x : Reaped) → may q (Reap x) ≡ true → (quiesced ≡ true → still_quiesced ≡ true) → SameEpoch q quiesced (by q (Reap x)) still_quiesced
+    same-reap x e stays = let t = and_parts (is_live q.handshake.driver) (nat_lt (reaped_count q) (completed_count q)) e in record {
       past = refl;
-      grown = record { posted = beginning-refl q.ledger.posted; served = beginning-refl q.ledger.served; given = beginning-append q.ledger.given q.ledger.given (x ∷ []) (beginning-refl q.ledger.given) };
+      grown = record { posted = beginning-refl q.ledger.posted; completed = beginning-refl q.ledger.completed; reaped = beginning-append q.ledger.reaped q.ledger.reaped (x ∷ []) (beginning-refl q.ledger.reaped) };
       posted = λ f. (refl, f);
-      served = λ f. (refl, stays f);
-      given = λ f. absurd (both_ways (is_answered q.handshake.driver) (live_unanswered q.handshake.driver t.0) f);
+      completed = λ f. (refl, stays f);
+      reaped = λ f. absurd (both_ways (is_answered q.handshake.driver) (live_unanswered q.handshake.driver t.0) f);
     }
 
     -- the answer leaves the driver's state
@@ -169,27 +169,27 @@ module _ {Posted Served Given : Type 0} where
     answered_driver true = refl
     answered_driver false = refl
 
-    same-shake : (c : ControlStep) (settled : Bool) → may_shake q.handshake c settled ≡ true → (over ≡ true → still_over ≡ true) → SameEpoch q over (by q (Shake c settled)) still_over
+    same-shake : (c : ControlStep) (settled : Bool) → may_shake q.handshake c settled ≡ true → (quiesced ≡ true → still_quiesced ≡ true) → SameEpoch q quiesced (by q (Shake c settled)) still_quiesced
     same-shake AskEnable settled e stays = let h = q.handshake in let opens = new_open h.driver e in
-        same-lists q (by q (Shake AskEnable settled)) over still_over refl refl (λ f. absurd (both_ways (is_open h.driver) f opens)) stays (λ f. absurd (both_ways (is_answered h.driver) (open_unanswered h.driver opens) f))
-    same-shake LookAsked settled e stays = same-lists q (by q (Shake LookAsked settled)) over still_over refl refl (λ f. f) stays (λ f. f)
+        same-lists q (by q (Shake AskEnable settled)) quiesced still_quiesced refl refl (λ f. absurd (both_ways (is_open h.driver) f opens)) stays (λ f. absurd (both_ways (is_answered h.driver) (open_unanswered h.driver opens) f))
+    same-shake LookAsked settled e stays = same-lists q (by q (Shake LookAsked settled)) quiesced still_quiesced refl refl (λ f. f) stays (λ f. f)
     same-shake Answer settled e stays = let d = answered_driver (can_enable q.handshake) in
-        same-lists q (by q (Shake Answer settled)) over still_over refl refl (λ f. ap is_open d ∙ f) stays (λ f. ap is_answered d ∙ f)
+        same-lists q (by q (Shake Answer settled)) quiesced still_quiesced refl refl (λ f. ap is_open d ∙ f) stays (λ f. ap is_answered d ∙ f)
     same-shake LookAnswered settled e stays = let h = q.handshake in
-        same-lists q (by q (Shake LookAnswered settled)) over still_over refl refl (λ f. learned_open h.driver h.control ∙ f) stays (learned_answered h.driver h.control)
+        same-lists q (by q (Shake LookAnswered settled)) quiesced still_quiesced refl refl (λ f. learned_open h.driver h.control ∙ f) stays (learned_answered h.driver h.control)
     same-shake AskDisable settled e stays = let h = q.handshake in
-        same-lists q (by q (Shake AskDisable settled)) over still_over refl refl (λ f. refl) stays (λ f. absurd (both_ways (is_answered h.driver) (open_unanswered h.driver (on_open h.driver e)) f))
+        same-lists q (by q (Shake AskDisable settled)) quiesced still_quiesced refl refl (λ f. refl) stays (λ f. absurd (both_ways (is_answered h.driver) (open_unanswered h.driver (on_open h.driver e)) f))
 
-    pub later-by : (s : QueueStep Posted Served Given) → may q s ≡ true → Stays s over still_over → Later q over (by q s) still_over
+    pub later-by : (s : QueueStep Posted Completed Reaped) → may q s ≡ true → Stays s quiesced still_quiesced → Later q quiesced (by q s) still_quiesced
     later-by (Post x) e stays = inr (same-post x e stays)
-    later-by Publish e stays = inr (same-lists q (by q Publish) over still_over refl refl (λ f. f) stays (λ f. f))
-    later-by Look e stays = inr (same-lists q (by q Look) over still_over refl refl (λ f. f) stays (λ f. f))
-    later-by Fetch e stays = inr (same-lists q (by q Fetch) over still_over refl refl (λ f. f) stays (λ f. f))
-    later-by (Serve x) e none = inr (same-serve x none)
-    later-by Head e stays = inr (same-lists q (by q Head) over still_over refl refl (λ f. f) stays (λ f. f))
-    later-by (Give x) e stays = inr (same-give x e stays)
+    later-by Publish e stays = inr (same-lists q (by q Publish) quiesced still_quiesced refl refl (λ f. f) stays (λ f. f))
+    later-by Look e stays = inr (same-lists q (by q Look) quiesced still_quiesced refl refl (λ f. f) stays (λ f. f))
+    later-by Fetch e stays = inr (same-lists q (by q Fetch) quiesced still_quiesced refl refl (λ f. f) stays (λ f. f))
+    later-by (Complete x) e none = inr (same-complete x none)
+    later-by Head e stays = inr (same-lists q (by q Head) quiesced still_quiesced refl refl (λ f. f) stays (λ f. f))
+    later-by (Reap x) e stays = inr (same-reap x e stays)
     later-by (Shake c settled) e stays = inr (same-shake c settled e stays)
-    later-by Reclaim e stays = inr (same-lists q (by q Reclaim) over still_over refl refl (λ f. f) stays (λ f. f))
-    later-by ClearHead e stays = inr (same-lists q (by q ClearHead) over still_over refl refl (λ f. refl) stays (λ f. refl))
-    later-by ClearTail e stays = inr (same-lists q (by q ClearTail) over still_over refl refl (λ f. refl) stays (λ f. refl))
-    later-by Renew e stays = inl (record { ended = q.ledger; more = []; past = refl; grown = grown-refl q.ledger; posted = λ f. refl; served = λ f. refl; given = λ f. refl })
+    later-by Reclaim e stays = inr (same-lists q (by q Reclaim) quiesced still_quiesced refl refl (λ f. f) stays (λ f. f))
+    later-by ClearHead e stays = inr (same-lists q (by q ClearHead) quiesced still_quiesced refl refl (λ f. refl) stays (λ f. refl))
+    later-by ClearTail e stays = inr (same-lists q (by q ClearTail) quiesced still_quiesced refl refl (λ f. refl) stays (λ f. refl))
+    later-by Renew e stays = inl (record { ended = q.ledger; more = []; past = refl; grown = grown-refl q.ledger; posted = λ f. refl; completed = λ f. refl; reaped = λ f. refl })

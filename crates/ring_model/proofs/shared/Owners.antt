@@ -43,9 +43,9 @@ module _ (n first serving past : ℕ) (held : Bool) (owners : List Owner) (m : I
       }
 
   -- the place of the next item to store goes to another, which from then on has it
-  pub map-serve : (serves : ℕ) (holds : Bool) (x : Owner) → x ≡ who serves holds serving → past ≤ first + n → first ≤ serving → serving < past → ((k : ℕ) → k ≢ serving → who serves holds k ≡ who serving held k)
+  pub map-complete : (serves : ℕ) (holds : Bool) (x : Owner) → x ≡ who serves holds serving → past ≤ first + n → first ≤ serving → serving < past → ((k : ℕ) → k ≢ serving → who serves holds k ≡ who serving held k)
       → IsLawfulMap (window_of n first serves past holds) (slice_set owners (serving % n) x)
-  map-serve serves holds x is small from below same = let w = owners-write n (serving % n) owners x m.places (mod-lt serving pos) in
+  map-complete serves holds x is small from below same = let w = owners-write n (serving % n) owners x m.places (mod-lt serving pos) in
       record {
         places = length-set owners (serving % n) x ∙ m.places;
         out = each_item-set n first past serving (slice_get owners) (slice_get (slice_set owners (serving % n) x)) (λ k. Some (who serving held k)) (λ k. Some (who serves holds k)) pos small from below

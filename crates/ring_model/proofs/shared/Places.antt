@@ -83,9 +83,9 @@ each_item-drop n first past before later wanted pos small lt same old k fk kp =
     same (k % n) (mod-lt k pos) (apart first past n k first (omega arith) kp (omega arith) lt small (λ e. omega arith)) ∙ old k (omega arith) kp
 
 -- the same places, where each item wants what it wanted
-pub each_item-same : {X : Type 0} (n first past : ℕ) (lies : ℕ → X) (wanted wanting : ℕ → X)
-    → ((k : ℕ) → first ≤ k → k < past → wanting k ≡ wanted k) → EachItem n first past lies wanted → EachItem n first past lies wanting
-each_item-same n first past lies wanted wanting same old k fk kp = old k fk kp ∙ sym (same k fk kp)
+pub each_item-same : {X : Type 0} (n first past : ℕ) (found : ℕ → X) (wanted wanting : ℕ → X)
+    → ((k : ℕ) → first ≤ k → k < past → wanting k ≡ wanted k) → EachItem n first past found wanted → EachItem n first past found wanting
+each_item-same n first past found wanted wanting same old k fk kp = old k fk kp ∙ sym (same k fk kp)
 
 module _ {X : Type 0} where
   slice_get-set_same : (xs : List X) (p : ℕ) (x : X) → p < length xs → slice_get (slice_set xs p x) p ≡ Some x

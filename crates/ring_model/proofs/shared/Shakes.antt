@@ -7,7 +7,8 @@ use Rattle.ring_model.specs.declared.states.DriverState.TheVariants.{New, Asked,
 use Rattle.ring_model.specs.declared.states.ControllerState.{ControllerState}
 use Rattle.ring_model.specs.declared.states.ControllerState.TheVariants.{Off, Serving, Ended}
 use Rattle.ring_model.specs.shared.Handshakes.{is_open, is_live, is_answered, is_serving, is_ended, is_new, is_on, is_stopped, is_cleared, is_tailed, learned}
-use Rattle.ring_model.specs.kept.Queues.{ShakesAs, is_emptied}
+use Rattle.ring_model.specs.shared.Handshakes.{is_emptied}
+use Rattle.ring_model.specs.shared.Laws.{ControlFits}
 
 -- What one test on a driver's state tells of another
 pub new_open : (d : DriverState) → is_new d ≡ true → is_open d ≡ true
@@ -64,7 +65,7 @@ answered_closed Tailed e = refl
 answered_closed _ e = absurd (false≢true e)
 
 -- once the disabling was seen answered, the controller has ended, and both words are 0
-pub answered_ended : (d : DriverState) (c : ControllerState) (control seen : ℕ) → is_answered d ≡ true → ShakesAs d c control seen → (c ≡ Ended) × (control ≡ 0) × (seen ≡ 0)
+pub answered_ended : (d : DriverState) (c : ControllerState) (control seen : ℕ) → is_answered d ≡ true → ControlFits d c control seen → (c ≡ Ended) × (control ≡ 0) × (seen ≡ 0)
 answered_ended Stopped Ended control seen e s = (refl, s.0, s.1)
 answered_ended Cleared Ended control seen e s = (refl, s.0, s.1)
 answered_ended Tailed Ended control seen e s = (refl, s.0, s.1)
@@ -76,7 +77,7 @@ answered_ended Cleared Serving control seen e s = absurd s
 answered_ended Tailed Serving control seen e s = absurd s
 answered_ended _ _ control seen e s = absurd (false≢true e)
 
-pub serving_unanswered : (d : DriverState) (c : ControllerState) (control seen : ℕ) → is_serving c ≡ true → ShakesAs d c control seen → is_answered d ≡ false
+pub serving_unanswered : (d : DriverState) (c : ControllerState) (control seen : ℕ) → is_serving c ≡ true → ControlFits d c control seen → is_answered d ≡ false
 serving_unanswered Asked Serving control seen e s = refl
 serving_unanswered On Serving control seen e s = refl
 serving_unanswered Stopping Serving control seen e s = refl
@@ -87,14 +88,14 @@ serving_unanswered Tailed Serving control seen e s = absurd s
 serving_unanswered _ _ control seen e s = absurd (false≢true e)
 
 -- C1
-pub shakes-ask_enable : (d : DriverState) (c : ControllerState) (control seen : ℕ) → is_new d ≡ true → ShakesAs d c control seen → ShakesAs Asked c 1 seen
+pub shakes-ask_enable : (d : DriverState) (c : ControllerState) (control seen : ℕ) → is_new d ≡ true → ControlFits d c control seen → ControlFits Asked c 1 seen
 shakes-ask_enable New Off control seen e s = let z = s.1 in (refl, omega arith)
 shakes-ask_enable New Serving control seen e s = absurd s
 shakes-ask_enable New Ended control seen e s = let z = s.1 in (refl, omega arith)
 shakes-ask_enable _ _ control seen e s = absurd (false≢true e)
 
 -- C2
-pub shakes-look_asked : (d : DriverState) (c : ControllerState) (control seen : ℕ) → ShakesAs d c control seen → ShakesAs d c control control
+pub shakes-look_asked : (d : DriverState) (c : ControllerState) (control seen : ℕ) → ControlFits d c control seen → ControlFits d c control control
 shakes-look_asked New Off control seen s = (s.0, s.0)
 shakes-look_asked New Serving control seen s = s
 shakes-look_asked New Ended control seen s = (s.0, s.0)
@@ -110,7 +111,7 @@ shakes-look_asked Tailed Ended control seen s = (s.0, s.0)
 shakes-look_asked _ _ control seen s = absurd s
 
 -- C3: the enabling
-pub shakes-enable : (d : DriverState) (c : ControllerState) (control seen : ℕ) → seen ≡ 1 → ShakesAs d c control seen → ShakesAs d Serving 2 2 × (is_open d ≡ true)
+pub shakes-enable : (d : DriverState) (c : ControllerState) (control seen : ℕ) → seen ≡ 1 → ControlFits d c control seen → ControlFits d Serving 2 2 × (is_open d ≡ true)
 shakes-enable Asked Off control seen e s = ((refl, refl), refl)
 shakes-enable Asked Ended control seen e s = ((refl, refl), refl)
 shakes-enable New Off control seen e s = let z = s.1 in absurd (omega arith)
@@ -125,7 +126,7 @@ shakes-enable Tailed Ended control seen e s = let z = s.1 in absurd (omega arith
 shakes-enable _ _ control seen e s = absurd s
 
 -- C3: the disabling
-pub shakes-disable : (d : DriverState) (c : ControllerState) (control seen : ℕ) → seen ≡ 3 → is_serving c ≡ true → ShakesAs d c control seen → ShakesAs d Ended 0 0 × (is_open d ≡ false)
+pub shakes-disable : (d : DriverState) (c : ControllerState) (control seen : ℕ) → seen ≡ 3 → is_serving c ≡ true → ControlFits d c control seen → ControlFits d Ended 0 0 × (is_open d ≡ false)
 shakes-disable Stopping Serving control seen e t s = ((refl, refl), refl)
 shakes-disable New Serving control seen e t s = absurd s
 shakes-disable Asked Serving control seen e t s = let z = s.1 in absurd (omega arith)
@@ -136,12 +137,12 @@ shakes-disable Tailed Serving control seen e t s = absurd s
 shakes-disable _ _ control seen e t s = absurd (false≢true t)
 
 -- C4
-pub shakes-look_answered : (d : DriverState) (c : ControllerState) (control seen : ℕ) → ShakesAs d c control seen → ShakesAs (learned d control) c control seen
-shakes-look_answered Asked Off control seen s = subst (λ (k : ℕ). ShakesAs (learned Asked k) Off k seen) (sym s.0) (refl, s.1)
-shakes-look_answered Asked Serving control seen s = subst (λ (k : ℕ). ShakesAs (learned Asked k) Serving k seen) (sym s.0) (refl, s.1)
-shakes-look_answered Asked Ended control seen s = subst (λ (k : ℕ). ShakesAs (learned Asked k) Ended k seen) (sym s.0) (refl, s.1)
-shakes-look_answered Stopping Serving control seen s = subst (λ (k : ℕ). ShakesAs (learned Stopping k) Serving k seen) (sym s.0) (refl, s.1, s.2)
-shakes-look_answered Stopping Ended control seen s = subst (λ (k : ℕ). ShakesAs (learned Stopping k) Ended k seen) (sym s.0) (refl, s.1)
+pub shakes-look_answered : (d : DriverState) (c : ControllerState) (control seen : ℕ) → ControlFits d c control seen → ControlFits (learned d control) c control seen
+shakes-look_answered Asked Off control seen s = subst (λ (k : ℕ). ControlFits (learned Asked k) Off k seen) (sym s.0) (refl, s.1)
+shakes-look_answered Asked Serving control seen s = subst (λ (k : ℕ). ControlFits (learned Asked k) Serving k seen) (sym s.0) (refl, s.1)
+shakes-look_answered Asked Ended control seen s = subst (λ (k : ℕ). ControlFits (learned Asked k) Ended k seen) (sym s.0) (refl, s.1)
+shakes-look_answered Stopping Serving control seen s = subst (λ (k : ℕ). ControlFits (learned Stopping k) Serving k seen) (sym s.0) (refl, s.1, s.2)
+shakes-look_answered Stopping Ended control seen s = subst (λ (k : ℕ). ControlFits (learned Stopping k) Ended k seen) (sym s.0) (refl, s.1)
 shakes-look_answered Stopping Off control seen s = absurd s
 shakes-look_answered New _ control seen s = s
 shakes-look_answered On _ control seen s = s
@@ -181,26 +182,26 @@ learned_unanswered Stopping control e = refl
 learned_unanswered _ control e = e
 
 -- C5
-pub shakes-ask_disable : (d : DriverState) (c : ControllerState) (control seen : ℕ) → is_on d ≡ true → ShakesAs d c control seen → ShakesAs Stopping c 3 seen
+pub shakes-ask_disable : (d : DriverState) (c : ControllerState) (control seen : ℕ) → is_on d ≡ true → ControlFits d c control seen → ControlFits Stopping c 3 seen
 shakes-ask_disable On Serving control seen e s = let z = s.1 in (refl, omega arith, omega arith)
 shakes-ask_disable On Off control seen e s = absurd s
 shakes-ask_disable On Ended control seen e s = absurd s
 shakes-ask_disable _ _ control seen e s = absurd (false≢true e)
 
 -- C9 and on: both words are 0 and stay
-pub shakes-clear_head : (d : DriverState) (c : ControllerState) (control seen : ℕ) → is_stopped d ≡ true → ShakesAs d c control seen → ShakesAs Cleared c control seen
+pub shakes-clear_head : (d : DriverState) (c : ControllerState) (control seen : ℕ) → is_stopped d ≡ true → ControlFits d c control seen → ControlFits Cleared c control seen
 shakes-clear_head Stopped Off control seen e s = s
 shakes-clear_head Stopped Serving control seen e s = s
 shakes-clear_head Stopped Ended control seen e s = s
 shakes-clear_head _ _ control seen e s = absurd (false≢true e)
 
-pub shakes-clear_tail : (d : DriverState) (c : ControllerState) (control seen : ℕ) → is_cleared d ≡ true → ShakesAs d c control seen → ShakesAs Tailed c control seen
+pub shakes-clear_tail : (d : DriverState) (c : ControllerState) (control seen : ℕ) → is_cleared d ≡ true → ControlFits d c control seen → ControlFits Tailed c control seen
 shakes-clear_tail Cleared Off control seen e s = s
 shakes-clear_tail Cleared Serving control seen e s = s
 shakes-clear_tail Cleared Ended control seen e s = s
 shakes-clear_tail _ _ control seen e s = absurd (false≢true e)
 
-pub shakes-renew : (d : DriverState) (c : ControllerState) (control seen : ℕ) → is_tailed d ≡ true → ShakesAs d c control seen → ShakesAs New c control seen × (is_serving c ≡ false)
+pub shakes-renew : (d : DriverState) (c : ControllerState) (control seen : ℕ) → is_tailed d ≡ true → ControlFits d c control seen → ControlFits New c control seen × (is_serving c ≡ false)
 shakes-renew Tailed Ended control seen e s = (s, refl)
 shakes-renew Tailed Off control seen e s = absurd s
 shakes-renew Tailed Serving control seen e s = absurd s
@@ -210,14 +211,14 @@ pub serving_unended : (c : ControllerState) → is_serving c ≡ true → is_end
 serving_unended Serving e = refl
 serving_unended _ e = absurd (false≢true e)
 
-pub on_serving : (d : DriverState) (c : ControllerState) (control seen : ℕ) → is_on d ≡ true → ShakesAs d c control seen → is_serving c ≡ true
+pub on_serving : (d : DriverState) (c : ControllerState) (control seen : ℕ) → is_on d ≡ true → ControlFits d c control seen → is_serving c ≡ true
 on_serving On Serving control seen e s = refl
 on_serving On Off control seen e s = absurd s
 on_serving On Ended control seen e s = absurd s
 on_serving _ _ control seen e s = absurd (false≢true e)
 
 -- a disabling that was answered, and whose head is not cleared
-pub ended_full : (d : DriverState) (c : ControllerState) (control seen : ℕ) → is_ended c ≡ true → (is_live d || is_stopped d) ≡ true → ShakesAs d c control seen → (is_open d ≡ false) × (is_emptied d ≡ false)
+pub ended_full : (d : DriverState) (c : ControllerState) (control seen : ℕ) → is_ended c ≡ true → (is_live d || is_stopped d) ≡ true → ControlFits d c control seen → (is_open d ≡ false) × (is_emptied d ≡ false)
 ended_full Stopping Ended control seen e l s = (refl, refl)
 ended_full Stopped Ended control seen e l s = (refl, refl)
 ended_full On Ended control seen e l s = absurd s

@@ -9,12 +9,14 @@ use Rattle.ring_model.specs.declared.steps.ControlStep.{ControlStep}
 use Rattle.ring_model.specs.declared.steps.ControlStep.TheVariants.{AskEnable, LookAsked, Answer, LookAnswered, AskDisable}
 use Rattle.ring_model.specs.shared.Frames.{ends_frame}
 use Rattle.ring_model.specs.shared.Handshakes.{is_open, is_live, is_answered, is_serving, is_ended, is_new, is_on, is_stopped, is_tailed, first_handshake, ask_enable, look_asked, can_enable, enable, can_disable, disable, look_answered, ask_disable, may_shake, has_ended}
-use Rattle.ring_model.specs.shared.QueueSteps.{QueueStep, Post, Publish, Look, Fetch, Serve, Head, Give, Shake, Reclaim, ClearHead, ClearTail, Renew}
-use Rattle.ring_model.specs.shared.Queue.{Queue, opening, posted_count, served_count, given_count, returned_count, next_head, is_settled, may, by}
-use Rattle.ring_model.specs.kept.Queues.{ShakesAs, is_emptied, IsShaken, InOrder, IsKept}
+use Rattle.ring_model.specs.shared.QueueSteps.{QueueStep, Post, Publish, Look, Fetch, Complete, Head, Reap, Shake, Reclaim, ClearHead, ClearTail, Renew}
+use Rattle.ring_model.specs.shared.Queue.{Queue, opening, posted_count, completed_count, reaped_count, returned_count, next_head, is_settled, may, by}
+use Rattle.ring_model.specs.shared.Handshakes.{is_emptied}
+use Rattle.ring_model.specs.shared.Laws.{ControlFits}
+use Rattle.ring_model.specs.kept.Queues.{IsShaken, InOrder, IsKept}
 use Rattle.ring_model.proofs.shared.Shakes.{new_open, on_open, open_unanswered, live_unanswered, stopped_answered, cleared_emptied, tailed_emptied, emptied_answered, answered_closed, answered_ended, serving_unanswered, shakes-ask_enable, shakes-look_asked, shakes-enable, shakes-disable, shakes-look_answered, learned_open, learned_emptied, learned_tailed, learned_unanswered, shakes-ask_disable, shakes-clear_head, shakes-clear_tail, shakes-renew, serving_unended, on_serving}
-use Rattle.ring_model.proofs.shared.Orders.{order-post, order-publish, order-look, order-fetch, served_below, order-serve, order-give, order-reclaim, order-shake, order-enable, order-disable, order-clear_tail, order-begin}
-use Rattle.ring_model.proofs.shared.Owners.{who-other, who-held, map-post, map-serve, map-return_at, map-none, map-opening}
+use Rattle.ring_model.proofs.shared.Orders.{order-post, order-publish, order-look, order-fetch, completed_below, order-complete, order-reap, order-reclaim, order-shake, order-enable, order-disable, order-clear_tail, order-begin}
+use Rattle.ring_model.proofs.shared.Owners.{who-other, who-held, map-post, map-complete, map-return_at, map-none, map-opening}
 
 -- a queue that serves has not ended
 pub unended : (h : Handshake) → is_serving h.controller ≡ true → has_ended h ≡ true → ⊥
@@ -24,8 +26,8 @@ unended h serving e = let t = and_parts (is_ended h.controller) (not (is_open h.
 pub open_unended : (h : Handshake) → is_open h.driver ≡ true → has_ended h ≡ true → ⊥
 open_unended h opened e = let t = and_parts (is_ended h.controller) (not (is_open h.driver)) e in both_ways (is_open h.driver) (not-true (is_open h.driver) t.1) opened
 
-module _ {Posted Served Given : Type 0} (n : ℕ) (ends : Served → Bool) where
-  kept-first : (h : Handshake) (enabled : Bool) → 1 < n → first_handshake enabled ≡ h → IsShaken h → is_ended h.controller ≡ false → IsKept n ends (record (opening {Posted = Posted} {Served = Served} {Given = Given} n enabled) { handshake = h })
+module _ {Posted Completed Reaped : Type 0} (n : ℕ) (ends : Completed → Bool) where
+  kept-first : (h : Handshake) (enabled : Bool) → 1 < n → first_handshake enabled ≡ h → IsShaken h → is_ended h.controller ≡ false → IsKept n ends (record (opening {Posted = Posted} {Completed = Completed} {Reaped = Reaped} n enabled) { handshake = h })
   kept-first h enabled some e s off = record {
     size_is = refl;
     places = some;
@@ -36,43 +38,43 @@ module _ {Posted Served Given : Type 0} (n : ℕ) (ends : Served → Bool) where
     told = λ e. absurd (both_ways (is_ended h.controller) off e);
   }
 
-  pub kept-opening : (enabled : Bool) → 1 < n → IsKept n ends (opening {Posted = Posted} {Served = Served} {Given = Given} n enabled)
+  pub kept-opening : (enabled : Bool) → 1 < n → IsKept n ends (opening {Posted = Posted} {Completed = Completed} {Reaped = Reaped} n enabled)
   kept-opening true h = kept-first (first_handshake true) true h refl (record { shakes = (refl, refl) }) refl
   kept-opening false h = kept-first (first_handshake false) false h refl (record { shakes = (refl, refl) }) refl
 
   -- a disabling is answered only where the queue is settled
-  abbrev pub IsFair : Queue Posted Served Given → QueueStep Posted Served Given → Type 0
+  abbrev pub IsFair : Queue Posted Completed Reaped → QueueStep Posted Completed Reaped → Type 0
   IsFair q (Shake c settled) = settled ≡ true → is_settled ends q ≡ true
   IsFair q _ = Unit {0}
 
-  module _ (q : Queue Posted Served Given) (k : IsKept n ends q) where
+  module _ (q : Queue Posted Completed Reaped) (k : IsKept n ends q) where
     pub some_places : 0 < q.size
     some_places = let e = k.size_is in let p = k.places in omega arith
 
     pub within : posted_count q ≤ returned_count q + q.size
     within = let e = k.size_is in let o = k.order in let h = o.room in omega arith
 
-    pub shook : ShakesAs q.handshake.driver q.handshake.controller q.handshake.control q.handshake.seen
+    pub shook : ControlFits q.handshake.driver q.handshake.controller q.handshake.control q.handshake.seen
     shook = let s = k.shaken in s.shakes
 
     -- while the controller serves, what is with the driver again was served
-    pub returned_served : is_serving q.handshake.controller ≡ true → returned_count q ≤ served_count q
-    returned_served serving = let o = k.order in let a = o.given_served in
+    pub returned_completed : is_serving q.handshake.controller ≡ true → returned_count q ≤ completed_count q
+    returned_completed serving = let o = k.order in let a = o.reaped_completed in
         let none = o.not_reclaimed (serving_unanswered q.handshake.driver q.handshake.controller q.handshake.control q.handshake.seen serving shook) in omega arith
 
-    pub held_below : q.held ≡ true → served_count q < posted_count q
-    held_below e = served_below n (posted_count q) (served_count q) (given_count q) q.published q.known q.reclaimed q.held q.handshake k.order e
+    pub held_below : q.held ≡ true → completed_count q < posted_count q
+    held_below e = completed_below n (posted_count q) (completed_count q) (reaped_count q) q.published q.known q.reclaimed q.held q.handshake k.order e
 
     -- what may be fetched: the controller serves, holds nothing, and the next item was posted
-    pub fetch_facts : may q Fetch ≡ true → (is_serving q.handshake.controller ≡ true) × (q.held ≡ false) × (served_count q < posted_count q)
-    fetch_facts e = let u = and_parts (is_serving q.handshake.controller && not q.held) (nat_lt (served_count q) q.known) e in
+    pub fetch_facts : may q Fetch ≡ true → (is_serving q.handshake.controller ≡ true) × (q.held ≡ false) × (completed_count q < posted_count q)
+    fetch_facts e = let u = and_parts (is_serving q.handshake.controller && not q.held) (nat_lt (completed_count q) q.known) e in
         let v = and_parts (is_serving q.handshake.controller) (not q.held) u.0 in
-        let free = ltb-true (served_count q) q.known u.1 in
+        let free = ltb-true (completed_count q) q.known u.1 in
         let o = k.order in let a = o.known_published v.0 in let b = o.published_posted in (v.0, not-true q.held v.1, omega arith)
 
     -- once the disabling was seen answered, the controller has ended and holds nothing
-    pub answered_over : is_answered q.handshake.driver ≡ true → is_ended q.handshake.controller ≡ true
-    answered_over a = let h = q.handshake in let t = answered_ended h.driver h.controller h.control h.seen a shook in ap is_ended t.0
+    pub answered_has_ended : is_answered q.handshake.driver ≡ true → is_ended q.handshake.controller ≡ true
+    answered_has_ended a = let h = q.handshake in let t = answered_ended h.driver h.controller h.control h.seen a shook in ap is_ended t.0
 
     pub answered_idle : is_answered q.handshake.driver ≡ true → is_serving q.handshake.controller ≡ false
     answered_idle a = let h = q.handshake in let t = answered_ended h.driver h.controller h.control h.seen a shook in ap is_serving t.0
@@ -81,54 +83,54 @@ module _ {Posted Served Given : Type 0} (n : ℕ) (ends : Served → Bool) where
     answered_unheld a = let o = k.order in ⊎_elim (λ e. absurd (both_ways (is_serving q.handshake.controller) (answered_idle a) (o.held_serving e))) (λ e. e) (cases_Bool q.held)
 
     pub kept-post : (x : Posted) → may q (Post x) ≡ true → IsKept n ends (by q (Post x))
-    kept-post x e = let t = and_parts (is_open q.handshake.driver) (nat_lt (posted_count q - given_count q) (q.size - 1)) e in
-        let room = ltb-true (posted_count q - given_count q) (q.size - 1) t.1 in
+    kept-post x e = let t = and_parts (is_open q.handshake.driver) (nat_lt (posted_count q - reaped_count q) (q.size - 1)) e in
+        let room = ltb-true (posted_count q - reaped_count q) (q.size - 1) t.1 in
         let s = k.size_is in let o = k.order in let back = o.returned_posted in
         record {
           size_is = k.size_is;
           places = k.places;
           shaken = k.shaken;
-          order = rw (length-append q.ledger.posted (x ∷ [])) (order-post n (posted_count q) (served_count q) (given_count q) q.published q.known q.reclaimed q.held q.handshake k.order t.0 (omega arith));
-          map = rw (length-append q.ledger.posted (x ∷ [])) (map-post q.size (returned_count q) (served_count q) (posted_count q) q.held q.owners k.map some_places (omega arith) back held_below);
+          order = rw (length-append q.ledger.posted (x ∷ [])) (order-post n (posted_count q) (completed_count q) (reaped_count q) q.published q.known q.reclaimed q.held q.handshake k.order t.0 (omega arith));
+          map = rw (length-append q.ledger.posted (x ∷ [])) (map-post q.size (returned_count q) (completed_count q) (posted_count q) q.held q.owners k.map some_places (omega arith) back held_below);
           whole = k.whole;
           told = k.told;
         }
 
     -- a step that changes what is published or known alone
-    kept-seen : (published known : ℕ) → InOrder n (posted_count q) (served_count q) (given_count q) published known q.reclaimed q.held q.handshake → IsKept n ends (record q { published = published; known = known })
+    kept-seen : (published known : ℕ) → InOrder n (posted_count q) (completed_count q) (reaped_count q) published known q.reclaimed q.held q.handshake → IsKept n ends (record q { published = published; known = known })
     kept-seen published known o = record { size_is = k.size_is; places = k.places; shaken = k.shaken; order = o; map = k.map; whole = k.whole; told = k.told }
 
     pub kept-publish : may q Publish ≡ true → IsKept n ends (by q Publish)
-    kept-publish e = kept-seen (posted_count q) q.known (order-publish n (posted_count q) (served_count q) (given_count q) q.published q.known q.reclaimed q.held q.handshake k.order e)
+    kept-publish e = kept-seen (posted_count q) q.known (order-publish n (posted_count q) (completed_count q) (reaped_count q) q.published q.known q.reclaimed q.held q.handshake k.order e)
 
     pub kept-look : may q Look ≡ true → IsKept n ends (by q Look)
-    kept-look e = kept-seen q.published q.published (order-look n (posted_count q) (served_count q) (given_count q) q.published q.known q.reclaimed q.held q.handshake k.order e)
+    kept-look e = kept-seen q.published q.published (order-look n (posted_count q) (completed_count q) (reaped_count q) q.published q.known q.reclaimed q.held q.handshake k.order e)
 
     pub kept-fetch : may q Fetch ≡ true → IsKept n ends (by q Fetch)
-    kept-fetch e = let u = and_parts (is_serving q.handshake.controller && not q.held) (nat_lt (served_count q) q.known) e in
+    kept-fetch e = let u = and_parts (is_serving q.handshake.controller && not q.held) (nat_lt (completed_count q) q.known) e in
         let v = and_parts (is_serving q.handshake.controller) (not q.held) u.0 in
-        let free = ltb-true (served_count q) q.known u.1 in
-        let o = k.order in let a = o.known_published v.0 in let b = o.published_posted in let back = returned_served v.0 in
+        let free = ltb-true (completed_count q) q.known u.1 in
+        let o = k.order in let a = o.known_published v.0 in let b = o.published_posted in let back = returned_completed v.0 in
         record {
           size_is = k.size_is;
           places = k.places;
           shaken = k.shaken;
-          order = order-fetch n (posted_count q) (served_count q) (given_count q) q.published q.known q.reclaimed q.held q.handshake k.order v.0 free;
-          map = map-serve q.size (returned_count q) (served_count q) (posted_count q) q.held q.owners k.map some_places (served_count q) true Controller (sym (who-held (served_count q))) within back (omega arith)
-              (λ j ne. who-other (served_count q) j true ne ∙ sym (who-other (served_count q) j q.held ne));
+          order = order-fetch n (posted_count q) (completed_count q) (reaped_count q) q.published q.known q.reclaimed q.held q.handshake k.order v.0 free;
+          map = map-complete q.size (returned_count q) (completed_count q) (posted_count q) q.held q.owners k.map some_places (completed_count q) true Controller (sym (who-held (completed_count q))) within back (omega arith)
+              (λ j ne. who-other (completed_count q) j true ne ∙ sym (who-other (completed_count q) j q.held ne));
           whole = k.whole;
           told = k.told;
         }
 
-    pub kept-serve : (x : Served) → may q (Serve x) ≡ true → IsKept n ends (by q (Serve x))
-    kept-serve x e = let below = held_below e in let o = k.order in let serving = o.held_serving e in let back = returned_served serving in
+    pub kept-complete : (x : Completed) → may q (Complete x) ≡ true → IsKept n ends (by q (Complete x))
+    kept-complete x e = let below = held_below e in let o = k.order in let serving = o.held_serving e in let back = returned_completed serving in
         record {
           size_is = k.size_is;
           places = k.places;
           shaken = k.shaken;
-          order = rw (length-append q.ledger.served (x ∷ [])) (order-serve n (posted_count q) (served_count q) (given_count q) q.published q.known q.reclaimed q.held q.handshake k.order e);
-          map = rw (length-append q.ledger.served (x ∷ [])) (map-serve q.size (returned_count q) (served_count q) (posted_count q) q.held q.owners k.map some_places (served_count q + 1) false Ring refl within back below
-              (λ j ne. sym (who-other (served_count q) j q.held ne)));
+          order = rw (length-append q.ledger.completed (x ∷ [])) (order-complete n (posted_count q) (completed_count q) (reaped_count q) q.published q.known q.reclaimed q.held q.handshake k.order e);
+          map = rw (length-append q.ledger.completed (x ∷ [])) (map-complete q.size (returned_count q) (completed_count q) (posted_count q) q.held q.owners k.map some_places (completed_count q + 1) false Ring refl within back below
+              (λ j ne. sym (who-other (completed_count q) j q.held ne)));
           whole = λ f. absurd (unended q.handshake serving f);
           told = λ f. absurd (both_ways (is_ended q.handshake.controller) (serving_unended q.handshake.controller serving) f);
         }
@@ -144,16 +146,16 @@ module _ {Posted Served Given : Type 0} (n : ℕ) (ends : Served → Bool) where
       told = λ f. absurd (both_ways (is_ended q.handshake.controller) (serving_unended q.handshake.controller t.0) f);
     }
 
-    pub kept-give : (x : Given) → may q (Give x) ≡ true → IsKept n ends (by q (Give x))
-    kept-give x e = let t = and_parts (is_live q.handshake.driver) (nat_lt (given_count q) (served_count q)) e in
-        let more = ltb-true (given_count q) (served_count q) t.1 in
-        let o = k.order in let none = o.not_reclaimed (live_unanswered q.handshake.driver t.0) in let below = o.served_posted in
+    pub kept-reap : (x : Reaped) → may q (Reap x) ≡ true → IsKept n ends (by q (Reap x))
+    kept-reap x e = let t = and_parts (is_live q.handshake.driver) (nat_lt (reaped_count q) (completed_count q)) e in
+        let more = ltb-true (reaped_count q) (completed_count q) t.1 in
+        let o = k.order in let none = o.not_reclaimed (live_unanswered q.handshake.driver t.0) in let below = o.completed_posted in
         record {
           size_is = k.size_is;
           places = k.places;
           shaken = k.shaken;
-          order = rw (length-append q.ledger.given (x ∷ [])) (order-give n (posted_count q) (served_count q) (given_count q) q.published q.known q.reclaimed q.held q.handshake k.order t.0 more);
-          map = rw (length-append q.ledger.given (x ∷ [])) (map-return_at q.size (returned_count q) (served_count q) (posted_count q) q.held q.owners k.map some_places (given_count q) (given_count q + 1 + q.reclaimed)
+          order = rw (length-append q.ledger.reaped (x ∷ [])) (order-reap n (posted_count q) (completed_count q) (reaped_count q) q.published q.known q.reclaimed q.held q.handshake k.order t.0 more);
+          map = rw (length-append q.ledger.reaped (x ∷ [])) (map-return_at q.size (returned_count q) (completed_count q) (posted_count q) q.held q.owners k.map some_places (reaped_count q) (reaped_count q + 1 + q.reclaimed)
               (omega arith) (omega arith) within (omega arith));
           whole = k.whole;
           told = k.told;
@@ -165,21 +167,21 @@ module _ {Posted Served Given : Type 0} (n : ℕ) (ends : Served → Bool) where
           size_is = k.size_is;
           places = k.places;
           shaken = k.shaken;
-          order = order-reclaim n (posted_count q) (served_count q) (given_count q) q.published q.known q.reclaimed q.held q.handshake k.order t.0 more;
-          map = map-return_at q.size (returned_count q) (served_count q) (posted_count q) q.held q.owners k.map some_places (returned_count q) (given_count q + (q.reclaimed + 1)) refl (omega arith) within more;
+          order = order-reclaim n (posted_count q) (completed_count q) (reaped_count q) q.published q.known q.reclaimed q.held q.handshake k.order t.0 more;
+          map = map-return_at q.size (returned_count q) (completed_count q) (posted_count q) q.held q.owners k.map some_places (returned_count q) (reaped_count q + (q.reclaimed + 1)) refl (omega arith) within more;
           whole = k.whole;
           told = k.told;
         }
 
     -- a step that changes the handshake alone
-    kept-shaken : (g : Handshake) → IsShaken g → InOrder n (posted_count q) (served_count q) (given_count q) q.published q.known q.reclaimed q.held g
-        → (has_ended g ≡ true → ends_frame ends true q.ledger.served ≡ true)
+    kept-shaken : (g : Handshake) → IsShaken g → InOrder n (posted_count q) (completed_count q) (reaped_count q) q.published q.known q.reclaimed q.held g
+        → (has_ended g ≡ true → ends_frame ends true q.ledger.completed ≡ true)
         → (is_ended g.controller ≡ true → is_open g.driver ≡ false → is_emptied g.driver ≡ false → q.head ≡ next_head q) → IsKept n ends (record q { handshake = g })
     kept-shaken g s o whole told = record { size_is = k.size_is; places = k.places; shaken = s; order = o; map = k.map; whole = whole; told = told }
 
     ordered : (g : Handshake) → is_serving g.controller ≡ is_serving q.handshake.controller → (is_answered g.driver ≡ false → is_answered q.handshake.driver ≡ false) → (is_open g.driver ≡ true → is_open q.handshake.driver ≡ true)
-        → (is_emptied g.driver ≡ true → returned_count q ≡ posted_count q) → (is_tailed g.driver ≡ true → q.published ≡ 0) → InOrder n (posted_count q) (served_count q) (given_count q) q.published q.known q.reclaimed q.held g
-    ordered g a b c d e = order-shake n (posted_count q) (served_count q) (given_count q) q.published q.known q.reclaimed q.held q.handshake k.order g a b c d e
+        → (is_emptied g.driver ≡ true → returned_count q ≡ posted_count q) → (is_tailed g.driver ≡ true → q.published ≡ 0) → InOrder n (posted_count q) (completed_count q) (reaped_count q) q.published q.known q.reclaimed q.held g
+    ordered g a b c d e = order-shake n (posted_count q) (completed_count q) (reaped_count q) q.published q.known q.reclaimed q.held q.handshake k.order g a b c d e
 
     kept-ask_enable : is_new q.handshake.driver ≡ true → IsKept n ends (record q { handshake = ask_enable q.handshake })
     kept-ask_enable e = let h = q.handshake in kept-shaken (ask_enable h) (record { shakes = shakes-ask_enable h.driver h.controller h.control h.seen e shook })
@@ -212,7 +214,7 @@ module _ {Posted Served Given : Type 0} (n : ℕ) (ends : Served → Bool) where
           size_is = k.size_is;
           places = k.places;
           shaken = record { shakes = s.0 };
-          order = order-enable n (posted_count q) (served_count q) (given_count q) q.published q.known q.reclaimed q.held h k.order (enable h) refl (not-true (is_serving h.controller) t.1) s.1 refl;
+          order = order-enable n (posted_count q) (completed_count q) (reaped_count q) q.published q.known q.reclaimed q.held h k.order (enable h) refl (not-true (is_serving h.controller) t.1) s.1 refl;
           map = k.map;
           whole = λ f. absurd (false≢true f);
           told = λ f. absurd (false≢true f);
@@ -220,10 +222,10 @@ module _ {Posted Served Given : Type 0} (n : ℕ) (ends : Served → Bool) where
 
     kept-disable : can_disable q.handshake ≡ true → is_settled ends q ≡ true → IsKept n ends (record q { handshake = disable q.handshake })
     kept-disable e settled = let h = q.handshake in let u = and_parts (h.seen == 3) (is_serving h.controller) e in
-        let v = and_parts (not q.held && (q.head == next_head q)) (ends_frame ends true q.ledger.served) settled in let w = and_parts (not q.held) (q.head == next_head q) v.0 in
+        let v = and_parts (not q.held && (q.head == next_head q)) (ends_frame ends true q.ledger.completed) settled in let w = and_parts (not q.held) (q.head == next_head q) v.0 in
         let s = shakes-disable h.driver h.controller h.control h.seen (eqb-true h.seen 3 u.0) u.1 shook in
         kept-shaken (disable h) (record { shakes = s.0 })
-        (order-disable n (posted_count q) (served_count q) (given_count q) q.published q.known q.reclaimed q.held h k.order (disable h) refl (not-true q.held w.0) s.1 refl)
+        (order-disable n (posted_count q) (completed_count q) (reaped_count q) q.published q.known q.reclaimed q.held h k.order (disable h) refl (not-true q.held w.0) s.1 refl)
         (λ f. v.1)
         (λ f c g. eqb-true q.head (next_head q) w.1)
 
@@ -260,7 +262,7 @@ module _ {Posted Served Given : Type 0} (n : ℕ) (ends : Served → Bool) where
           size_is = k.size_is;
           places = k.places;
           shaken = record { shakes = shakes-clear_tail h.driver h.controller h.control h.seen may shook };
-          order = order-clear_tail n (posted_count q) (served_count q) (given_count q) q.published q.known q.reclaimed q.held h k.order g (answered_idle a) (answered_unheld a) refl refl (o.all_back e);
+          order = order-clear_tail n (posted_count q) (completed_count q) (reaped_count q) q.published q.known q.reclaimed q.held h k.order g (answered_idle a) (answered_unheld a) refl refl (o.all_back e);
           map = k.map;
           whole = λ f. k.whole (rw (answered_closed h.driver a) f);
           told = λ f c g. absurd (true≢false g);
@@ -274,19 +276,19 @@ module _ {Posted Served Given : Type 0} (n : ℕ) (ends : Served → Bool) where
           places = k.places;
           shaken = record { shakes = s.0 };
           order = order-begin n q.published q.known q.held g (omega arith) (o.tail_cleared may) (answered_unheld a) (λ serves. absurd (both_ways (is_serving h.controller) s.1 serves));
-          map = map-none q.size (returned_count q) (served_count q) (posted_count q) 0 0 q.held q.held q.owners (omega arith) k.map;
+          map = map-none q.size (returned_count q) (completed_count q) (posted_count q) 0 0 q.held q.held q.owners (omega arith) k.map;
           whole = λ f. refl;
           told = λ f c. absurd (true≢false c);
         }
 
-    pub kept-by : (s : QueueStep Posted Served Given) → IsFair q s → may q s ≡ true → IsKept n ends (by q s)
+    pub kept-by : (s : QueueStep Posted Completed Reaped) → IsFair q s → may q s ≡ true → IsKept n ends (by q s)
     kept-by (Post x) fair e = kept-post x e
     kept-by Publish fair e = kept-publish e
     kept-by Look fair e = kept-look e
     kept-by Fetch fair e = kept-fetch e
-    kept-by (Serve x) fair e = kept-serve x e
+    kept-by (Complete x) fair e = kept-complete x e
     kept-by Head fair e = kept-head e
-    kept-by (Give x) fair e = kept-give x e
+    kept-by (Reap x) fair e = kept-reap x e
     kept-by (Shake c settled) fair e = kept-shake c settled fair e
     kept-by Reclaim fair e = kept-reclaim e
     kept-by ClearHead fair e = kept-clear_head e

@@ -14,7 +14,7 @@ module _ {Payload : Type 0} where
 
   pub reports-none : (held owed serving : Bool) → owed ≡ false → InReports {Payload = Payload} [] 0 0 0 held owed serving
   reports-none held owed serving none = record {
-    given_seen = omega arith;
+    reaped_seen = omega arith;
     seen_reported = omega arith;
     reported_sent = omega arith;
     owed_unheld = λ e. absurd (both_ways owed none e);
@@ -24,7 +24,7 @@ module _ {Payload : Type 0} where
     silent = λ k a b f. absurd (omega arith);
   }
 
-  module _ (sent : List (Posting Payload)) (given seen reported : ℕ) (held owed serving : Bool) (s : InReports sent given seen reported held owed serving) where
+  module _ (sent : List (Posting Payload)) (reaped seen reported : ℕ) (held owed serving : Bool) (s : InReports sent reaped seen reported held owed serving) where
     -- while the controller serves no more, nothing is owed
     pub unserving_paid : serving ≡ false → owed ≡ false
     unserving_paid none = ⊎_elim (λ e. absurd (both_ways serving none (s.owed_serving e))) (λ e. e) (cases_Bool owed)
@@ -32,9 +32,9 @@ module _ {Payload : Type 0} where
     pub held_paid : held ≡ true → owed ≡ false
     held_paid so = ⊎_elim (λ e. absurd (both_ways held (s.owed_unheld e) so)) (λ e. e) (cases_Bool owed)
 
-    pub reports-fetch : owed ≡ false → InReports sent given seen reported true owed serving
+    pub reports-fetch : owed ≡ false → InReports sent reaped seen reported true owed serving
     reports-fetch none = record {
-      given_seen = s.given_seen;
+      reaped_seen = s.reaped_seen;
       seen_reported = s.seen_reported;
       reported_sent = s.reported_sent;
       owed_unheld = λ e. absurd (both_ways owed none e);
@@ -51,9 +51,9 @@ module _ {Payload : Type 0} where
         ∙ ⊎_elim (λ t. let u = f t in absurd (omega arith)) (λ t. t) (cases_Bool p.rs))
         (cases_lt k (length sent))
 
-    pub reports-send : (p : Posting Payload) → held ≡ true → serving ≡ true → InReports (sent ++ p ∷ []) given seen reported false p.rs serving
+    pub reports-send : (p : Posting Payload) → held ≡ true → serving ≡ true → InReports (sent ++ p ∷ []) reaped seen reported false p.rs serving
     reports-send p so serves = let n = length-append sent (p ∷ []) in let below = s.reported_sent in record {
-      given_seen = s.given_seen;
+      reaped_seen = s.reaped_seen;
       seen_reported = s.seen_reported;
       reported_sent = omega arith;
       owed_unheld = λ e. refl;
@@ -64,9 +64,9 @@ module _ {Payload : Type 0} where
       silent = λ k a b f. silent_now p (held_paid so) k a (omega arith) (λ e. let g = f e in omega arith);
     }
 
-    pub reports-report : owed ≡ true → InReports sent given seen (length sent) held false serving
+    pub reports-report : owed ≡ true → InReports sent reaped seen (length sent) held false serving
     reports-report so = let a = s.seen_reported in let b = s.reported_sent in record {
-      given_seen = s.given_seen;
+      reaped_seen = s.reaped_seen;
       seen_reported = omega arith;
       reported_sent = omega arith;
       owed_unheld = λ e. absurd (false≢true e);
@@ -79,7 +79,7 @@ module _ {Payload : Type 0} where
     -- a driver's step changes what it gave and what it saw reported, and nothing else
     reports-seen : (gave saw : ℕ) → gave ≤ saw → saw ≤ reported → InReports sent gave saw reported held owed serving
     reports-seen gave saw few made = record {
-      given_seen = few;
+      reaped_seen = few;
       seen_reported = made;
       reported_sent = s.reported_sent;
       owed_unheld = s.owed_unheld;
@@ -89,16 +89,16 @@ module _ {Payload : Type 0} where
       silent = s.silent;
     }
 
-    pub reports-load : (j : ℕ) → j < reported → seen ≤ j → InReports sent given (j + 1) reported held owed serving
-    reports-load j below above = let a = s.given_seen in reports-seen given (j + 1) (omega arith) (omega arith)
+    pub reports-load : (j : ℕ) → j < reported → seen ≤ j → InReports sent reaped (j + 1) reported held owed serving
+    reports-load j below above = let a = s.reaped_seen in reports-seen reaped (j + 1) (omega arith) (omega arith)
 
-    pub reports-give : given < seen → InReports sent (given + 1) seen reported held owed serving
-    reports-give below = reports-seen (given + 1) seen (omega arith) s.seen_reported
+    pub reports-reap : reaped < seen → InReports sent (reaped + 1) seen reported held owed serving
+    reports-reap below = reports-seen (reaped + 1) seen (omega arith) s.seen_reported
 
     -- an answered control word: nothing is owed, and nothing was
-    pub reports-answer : (serves : Bool) (owing : Bool) → owed ≡ false → owing ≡ false → InReports sent given seen reported held owing serves
+    pub reports-answer : (serves : Bool) (owing : Bool) → owed ≡ false → owing ≡ false → InReports sent reaped seen reported held owing serves
     reports-answer serves owing was none = record {
-      given_seen = s.given_seen;
+      reaped_seen = s.reaped_seen;
       seen_reported = s.seen_reported;
       reported_sent = s.reported_sent;
       owed_unheld = λ e. absurd (both_ways owing none e);

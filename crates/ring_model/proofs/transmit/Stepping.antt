@@ -10,8 +10,8 @@ use Rattle.ring_model.specs.declared.steps.ControlStep.TheVariants.{AskEnable, L
 use Rattle.ring_model.specs.declared.steps.TxStep.{TxStep}
 use Rattle.ring_model.specs.declared.steps.TxStep.TheVariants as tx
 use Rattle.ring_model.specs.shared.Handshakes.{first_handshake, is_live, is_serving, can_enable, can_disable, shaken, enables}
-use Rattle.ring_model.specs.shared.QueueSteps.{QueueStep, Post, Publish, Look, Fetch, Serve, Head, Give, Shake, Reclaim, ClearHead, ClearTail, Renew}
-use Rattle.ring_model.specs.shared.Queue.{posted_count, served_count, given_count, is_settled, may, by}
+use Rattle.ring_model.specs.shared.QueueSteps.{QueueStep, Post, Publish, Look, Fetch, Complete, Head, Reap, Shake, Reclaim, ClearHead, ClearTail, Renew}
+use Rattle.ring_model.specs.shared.Queue.{posted_count, completed_count, reaped_count, is_settled, may, by}
 use Rattle.ring_model.specs.transmit.Ring.{Posting, TxBeginning, TxLedger, TxRing, tx_opening, are_whole, ends_posting, next_posting, next_sent, number_of_posting}
 use Rattle.ring_model.specs.transmit.Steps.{by_head, asks_report, first_report, oldest_report, tx_settled, sent_one, loaded_report, cleaned_one, tx_renewed, tx_cleared, tx_can, tx_changed}
 use Rattle.ring_model.specs.transmit.Lawful.{IsLawfulTxLedger}
@@ -20,7 +20,7 @@ use Rattle.ring_model.proofs.shared.Shakes.{tailed_emptied, emptied_answered}
 use Rattle.ring_model.proofs.shared.Beginnings.{beginning-append, beginning-snoc, slice_get-snoc}
 use Rattle.ring_model.proofs.shared.Stepping.{kept-opening, kept-by, answered_idle}
 use Rattle.ring_model.specs.kept.Transmit.{InReports, IsTxKept}
-use Rattle.ring_model.proofs.transmit.Reports.{reports-none, unserving_paid, reports-fetch, reports-send, reports-report, reports-load, reports-give, reports-answer}
+use Rattle.ring_model.proofs.transmit.Reports.{reports-none, unserving_paid, reports-fetch, reports-send, reports-report, reports-load, reports-reap, reports-answer}
 
 pub tx_kept-opening : {Payload : Type 0} (n : ℕ) (b : TxBeginning) → 1 < n → IsTxKept Payload n (tx_opening n b)
 tx_kept-opening n b h = record {
@@ -49,13 +49,13 @@ module _ {Payload : Type 0} where
 
     -- while the controller serves no more, nothing is owed
     pub idle_paid : is_serving r.handshake.controller ≡ false → r.owed ≡ false
-    idle_paid idle = unserving_paid r.ledger.served (given_count r.queue) r.seen_reported r.reported r.held r.owed (is_serving r.handshake.controller) k.reports idle
+    idle_paid idle = unserving_paid r.ledger.completed (reaped_count r.queue) r.seen_reported r.reported r.held r.owed (is_serving r.handshake.controller) k.reports idle
 
     tx_kept-post : (p : Posting Payload) → may r.queue (Post p) ≡ true → IsTxKept Payload n (record r { queue = by r.queue (Post p) })
     tx_kept-post p e = let q = k.queue in let o = q.order in let few = o.published_posted in record {
       queue = kept-by n ends_posting r.queue k.queue (Post p) tt e;
       reports = k.reports;
-      sent = beginning-append r.ledger.served r.ledger.posted (p ∷ []) k.sent;
+      sent = beginning-append r.ledger.completed r.ledger.posted (p ∷ []) k.sent;
       cleaned = k.cleaned;
       past = k.past;
       published = ap are_whole (take-append-le r.published r.ledger.posted (p ∷ []) few) ∙ k.published;
@@ -73,7 +73,7 @@ module _ {Payload : Type 0} where
 
     -- a step that leaves the lists and what is published
     tx_kept-rest : (s : QueueStep (Posting Payload) (Posting Payload) ℕ) → IsKept n ends_posting (by r.queue s) → (by r.queue s).ledger ≡ r.ledger → (by r.queue s).past ≡ r.past → (by r.queue s).published ≡ r.published
-        → InReports r.ledger.served (given_count r.queue) r.seen_reported r.reported (by r.queue s).held r.owed (is_serving (by r.queue s).handshake.controller) → IsTxKept Payload n (record r { queue = by r.queue s })
+        → InReports r.ledger.completed (reaped_count r.queue) r.seen_reported r.reported (by r.queue s).held r.owed (is_serving (by r.queue s).handshake.controller) → IsTxKept Payload n (record r { queue = by r.queue s })
     tx_kept-rest s kept l p same reports = record {
       queue = kept;
       reports = rw l reports;
@@ -86,11 +86,11 @@ module _ {Payload : Type 0} where
     tx_kept-sent : (found : Option (Posting Payload)) → next_posting r ≡ found → r.held ≡ true → IsTxKept Payload n (sent_one r found)
     tx_kept-sent None e held = k
     tx_kept-sent (Some p) e held = let q = k.queue in let o = q.order in let serving = o.held_serving held in
-        let served = kept-by n ends_posting r.queue k.queue (Serve p) tt held in record {
-          queue = kept-by n ends_posting (by r.queue (Serve p)) served Head tt (and_from (is_serving r.handshake.controller) true serving refl);
-          reports = reports-send r.ledger.served (given_count r.queue) r.seen_reported r.reported r.held r.owed (is_serving r.handshake.controller) k.reports p held serving;
-          sent = beginning-snoc r.ledger.served r.ledger.posted p k.sent e;
-          cleaned = rw (map-append number_of_posting r.ledger.served (p ∷ [])) (beginning-append r.ledger.given (map number_of_posting r.ledger.served) (p.number ∷ []) k.cleaned);
+        let completed = kept-by n ends_posting r.queue k.queue (Complete p) tt held in record {
+          queue = kept-by n ends_posting (by r.queue (Complete p)) completed Head tt (and_from (is_serving r.handshake.controller) true serving refl);
+          reports = reports-send r.ledger.completed (reaped_count r.queue) r.seen_reported r.reported r.held r.owed (is_serving r.handshake.controller) k.reports p held serving;
+          sent = beginning-snoc r.ledger.completed r.ledger.posted p k.sent e;
+          cleaned = rw (map-append number_of_posting r.ledger.completed (p ∷ [])) (beginning-append r.ledger.reaped (map number_of_posting r.ledger.completed) (p.number ∷ []) k.cleaned);
           past = k.past;
           published = k.published;
         }
@@ -98,7 +98,7 @@ module _ {Payload : Type 0} where
     tx_kept-report : r.owed ≡ true → IsTxKept Payload n (tx_changed r tx.Report)
     tx_kept-report e = record {
       queue = k.queue;
-      reports = reports-report r.ledger.served (given_count r.queue) r.seen_reported r.reported r.held r.owed (is_serving r.handshake.controller) k.reports e;
+      reports = reports-report r.ledger.completed (reaped_count r.queue) r.seen_reported r.reported r.held r.owed (is_serving r.handshake.controller) k.reports e;
       sent = k.sent;
       cleaned = k.cleaned;
       past = k.past;
@@ -109,7 +109,7 @@ module _ {Payload : Type 0} where
     tx_kept-seen j above false e = k
     tx_kept-seen j above true e = record {
       queue = k.queue;
-      reports = reports-load r.ledger.served (given_count r.queue) r.seen_reported r.reported r.held r.owed (is_serving r.handshake.controller) k.reports j (ltb-true j r.reported e) above;
+      reports = reports-load r.ledger.completed (reaped_count r.queue) r.seen_reported r.reported r.held r.owed (is_serving r.handshake.controller) k.reports j (ltb-true j r.reported e) above;
       sent = k.sent;
       cleaned = k.cleaned;
       past = k.past;
@@ -121,19 +121,19 @@ module _ {Payload : Type 0} where
     tx_kept-loaded (Some j) e = tx_kept-seen j (first_report-above r.ledger.posted r.seen_reported (posted_count r.queue - r.seen_reported) j e) (nat_lt j r.reported) refl
 
     -- what is seen reported was sent
-    pub seen_sent : r.seen_reported ≤ served_count r.queue
+    pub seen_sent : r.seen_reported ≤ completed_count r.queue
     seen_sent = let s = k.reports in let a = s.seen_reported in let b = s.reported_sent in omega arith
 
-    pub may_clean : (x : ℕ) → is_live r.handshake.driver ≡ true → given_count r.queue < r.seen_reported → may r.queue (Give x) ≡ true
-    may_clean x live below = let few = seen_sent in and_from (is_live r.handshake.driver) (nat_lt (given_count r.queue) (served_count r.queue)) live (lt-ltb (given_count r.queue) (served_count r.queue) (omega arith))
+    pub may_clean : (x : ℕ) → is_live r.handshake.driver ≡ true → reaped_count r.queue < r.seen_reported → may r.queue (Reap x) ≡ true
+    may_clean x live below = let few = seen_sent in and_from (is_live r.handshake.driver) (nat_lt (reaped_count r.queue) (completed_count r.queue)) live (lt-ltb (reaped_count r.queue) (completed_count r.queue) (omega arith))
 
     tx_kept-cleaned : (found : Option (Posting Payload)) → next_sent r ≡ found → tx_can r tx.Clean ≡ true → IsTxKept Payload n (cleaned_one r found)
     tx_kept-cleaned None e can = k
-    tx_kept-cleaned (Some p) e can = let t = and_parts (is_live r.handshake.driver) (nat_lt (given_count r.queue) r.seen_reported) can in let below = ltb-true (given_count r.queue) r.seen_reported t.1 in record {
-      queue = kept-by n ends_posting r.queue k.queue (Give p.number) tt (may_clean p.number t.0 below);
-      reports = rw (length-append r.ledger.given (p.number ∷ [])) (reports-give r.ledger.served (given_count r.queue) r.seen_reported r.reported r.held r.owed (is_serving r.handshake.controller) k.reports below);
+    tx_kept-cleaned (Some p) e can = let t = and_parts (is_live r.handshake.driver) (nat_lt (reaped_count r.queue) r.seen_reported) can in let below = ltb-true (reaped_count r.queue) r.seen_reported t.1 in record {
+      queue = kept-by n ends_posting r.queue k.queue (Reap p.number) tt (may_clean p.number t.0 below);
+      reports = rw (length-append r.ledger.reaped (p.number ∷ [])) (reports-reap r.ledger.completed (reaped_count r.queue) r.seen_reported r.reported r.held r.owed (is_serving r.handshake.controller) k.reports below);
       sent = k.sent;
-      cleaned = beginning-snoc r.ledger.given (map number_of_posting r.ledger.served) p.number k.cleaned (slice_get-map number_of_posting r.ledger.served (given_count r.queue) ∙ ap (λ (o : Option (Posting Payload)). option_map number_of_posting o) e);
+      cleaned = beginning-snoc r.ledger.reaped (map number_of_posting r.ledger.completed) p.number k.cleaned (slice_get-map number_of_posting r.ledger.completed (reaped_count r.queue) ∙ ap (λ (o : Option (Posting Payload)). option_map number_of_posting o) e);
       past = k.past;
       published = k.published;
     }
@@ -150,11 +150,11 @@ module _ {Payload : Type 0} where
     still_paid false none = none
 
     reports-shake : (c : ControlStep) → tx_can r (tx.Control c) ≡ true
-        → InReports r.ledger.served (given_count r.queue) r.seen_reported r.reported r.held (not (enables r.handshake c) && r.owed) (is_serving (shaken r.handshake c).controller)
+        → InReports r.ledger.completed (reaped_count r.queue) r.seen_reported r.reported r.held (not (enables r.handshake c) && r.owed) (is_serving (shaken r.handshake c).controller)
     reports-shake AskEnable e = k.reports
     reports-shake LookAsked e = k.reports
     reports-shake Answer e = let none = answer_paid e in
-        reports-answer r.ledger.served (given_count r.queue) r.seen_reported r.reported r.held r.owed (is_serving r.handshake.controller) k.reports
+        reports-answer r.ledger.completed (reaped_count r.queue) r.seen_reported r.reported r.held r.owed (is_serving r.handshake.controller) k.reports
         (is_serving (shaken r.handshake Answer).controller) (not (enables r.handshake Answer) && r.owed) none (still_paid (can_enable r.handshake) none)
     reports-shake LookAnswered e = k.reports
     reports-shake AskDisable e = k.reports
@@ -202,7 +202,7 @@ module _ {Payload : Type 0} (n : ℕ) (r : TxRing Payload) (k : IsTxKept Payload
   tx_kept-changed tx.Publish e = let t = and_parts (may r.queue Publish) (are_whole r.ledger.posted) e in tx_kept-publish n r k t.0 t.1
   tx_kept-changed tx.Look e = tx_kept-rest n r k Look (kept-by n ends_posting r.queue k.queue Look tt e) refl refl refl k.reports
   tx_kept-changed tx.Fetch e = let t = and_parts (may r.queue Fetch) (not r.owed) e in tx_kept-rest n r k Fetch (kept-by n ends_posting r.queue k.queue Fetch tt t.0) refl refl refl
-      (reports-fetch r.ledger.served (given_count r.queue) r.seen_reported r.reported r.held r.owed (is_serving r.handshake.controller) k.reports (not-true r.owed t.1))
+      (reports-fetch r.ledger.completed (reaped_count r.queue) r.seen_reported r.reported r.held r.owed (is_serving r.handshake.controller) k.reports (not-true r.owed t.1))
   tx_kept-changed tx.Send e = tx_kept-sent n r k (next_posting r) refl e
   tx_kept-changed tx.Report e = tx_kept-report n r k e
   tx_kept-changed tx.LoadReport e = tx_kept-loaded n r k (oldest_report r) refl

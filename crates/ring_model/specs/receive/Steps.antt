@@ -6,7 +6,7 @@ use Rattle.ring_model.specs.declared.notes.TakenSegment.{TakenSegment}
 use Rattle.ring_model.specs.declared.notes.Note.{Note}
 use Rattle.ring_model.specs.declared.notes.Note.TheVariants as note
 use Rattle.ring_model.specs.shared.Handshakes.{is_live, is_serving, control_value, enables}
-use Rattle.ring_model.specs.shared.Queue.{posted_count, served_count, given_count, returned_count, next_head, is_settled, may, by}
+use Rattle.ring_model.specs.shared.Queue.{posted_count, completed_count, reaped_count, returned_count, next_head, is_settled, may, by}
 use Rattle.ring_model.specs.shared.QueueSteps as queue
 use Rattle.ring_model.specs.shared.Schedules.{after_all, happened, next, told_by, IsReached}
 use Rattle.ring_model.specs.receive.Ring.{RxRing, rx_opening, due, is_whole, next_segment}
@@ -16,7 +16,7 @@ module _ {Payload : Type 0} where
   -- The driver takes the next segment if its load shows that it is stored.
   abbrev pub took : RxRing Payload → Option (Segment Payload) → RxRing Payload
   took r None = r
-  took r (Some s) = record r { queue = by r.queue (queue.Give s) }
+  took r (Some s) = record r { queue = by r.queue (queue.Reap s) }
 
   abbrev pub rx_settled : RxRing Payload → Bool
   rx_settled r = is_settled ends_segment r.queue
@@ -26,8 +26,8 @@ module _ {Payload : Type 0} where
   rx_can r Publish = may r.queue queue.Publish
   rx_can r Look = may r.queue queue.Look
   rx_can r Fetch = may r.queue queue.Fetch && not r.still
-  rx_can r (Store x eop) = may r.queue (queue.Serve (next_segment r x eop))
-  rx_can r Take = is_live r.handshake.driver && nat_lt (given_count r.queue) (posted_count r.queue)
+  rx_can r (Store x eop) = may r.queue (queue.Complete (next_segment r x eop))
+  rx_can r Take = is_live r.handshake.driver && nat_lt (reaped_count r.queue) (posted_count r.queue)
   rx_can r Head = may r.queue queue.Head
   rx_can r (Control c) = may r.queue (queue.Shake c (rx_settled r))
   rx_can r Reclaim = may r.queue queue.Reclaim
@@ -43,7 +43,7 @@ module _ {Payload : Type 0} where
   rx_changed r Publish = record r { queue = by r.queue queue.Publish }
   rx_changed r Look = record r { queue = by r.queue queue.Look }
   rx_changed r Fetch = record r { queue = by r.queue queue.Fetch }
-  rx_changed r (Store x eop) = record r { queue = by r.queue (queue.Serve (next_segment r x eop)) }
+  rx_changed r (Store x eop) = record r { queue = by r.queue (queue.Complete (next_segment r x eop)) }
   rx_changed r Take = took r (due r)
   rx_changed r Head = record r { queue = by r.queue queue.Head }
   rx_changed r (Control c) = record r { queue = by r.queue (queue.Shake c (rx_settled r)); still = not (enables r.handshake c) && r.still }
@@ -75,8 +75,8 @@ taken_segment (Some s) = Some (record { buffer = s.number; len = s.payload; eop 
 abbrev pub rx_note_of : RxRing ℕ → RxStep ℕ → Note
 rx_note_of r (Post b) = note.Place (posted_count r.queue % r.size)
 rx_note_of r Publish = note.Tail (posted_count r.queue % r.size)
-rx_note_of r Look = note.Free (r.published - served_count r.queue)
-rx_note_of r Fetch = note.Fetched (next_head r.queue) (slice_index r.ledger.posted (served_count r.queue))
+rx_note_of r Look = note.Free (r.published - completed_count r.queue)
+rx_note_of r Fetch = note.Fetched (next_head r.queue) (slice_index r.ledger.posted (completed_count r.queue))
 rx_note_of r (Store x eop) = note.Place (next_head r.queue)
 rx_note_of r Take = note.Taken (taken_segment (due r))
 rx_note_of r Head = note.Head (next_head r.queue)

@@ -41,7 +41,7 @@ pub record FollowRows : Type 0 where
   pub begun : MayGoOn 8 0 0 1 false
   pub nothing : MayNotGoOn 8 0 0 0 false
   pub full_buffer : MayGoOn 8 0 0 2048 true
-  pub over_full : MayNotGoOn 8 0 0 2049 true
+  pub quiesced_full : MayNotGoOn 8 0 0 2049 true
   pub fifteenth : MayGoOn 16 14 14336 664 true
   pub too_long : MayNotGoOn 16 14 14336 665 true
   pub sixteenth : MayNotGoOn 32 15 14000 1 true

@@ -32,7 +32,7 @@ pub record PostingRows : Type 0 where
   -- A segment has 1 to 2,048 bytes.
   pub nothing : MayNotBegin 0 false false 60
   pub full_buffer : MayBegin 2048 false false 15000
-  pub over_full : MayNotBegin 2049 false false 15000
+  pub quiesced_full : MayNotBegin 2049 false false 15000
   -- Only the last segment of a frame may ask for a report.
   pub report_at_end : MayBegin 60 true true 60
   pub no_report : MayBegin 60 true false 60

@@ -85,7 +85,7 @@ pub record RxRows : Type 0 where
   pub seven_places : rx_notes on_8 (rx_posts 0 8) ≡ place 0 ∷ place 1 ∷ place 2 ∷ place 3 ∷ place 4 ∷ place 5 ∷ place 6 ∷ None ∷ []
   pub seven_fit : rx_happened on_8 (rx_posts 0 8) ≡ 7
   -- 21 frames go round a ring of 8 nearly three times. The last one uses place 4.
-  pub twenty_one : map (λ (s : Segment ℕ). s.payload) (rx_after_all on_8 (seven_posted ++ rx_turns 0 21)).ledger.given
+  pub twenty_one : map (λ (s : Segment ℕ). s.payload) (rx_after_all on_8 (seven_posted ++ rx_turns 0 21)).ledger.reaped
       ≡ 60 ∷ 61 ∷ 62 ∷ 63 ∷ 64 ∷ 65 ∷ 66 ∷ 67 ∷ 68 ∷ 69 ∷ 70 ∷ 71 ∷ 72 ∷ 73 ∷ 74 ∷ 75 ∷ 76 ∷ 77 ∷ 78 ∷ 79 ∷ 80 ∷ []
   pub twenty_first : rx_notes (rx_after_all on_8 (seven_posted ++ rx_turns 0 20)) (rx_turns 20 1)
       ≡ free 7 ∷ fetched 4 13 ∷ place 4 ∷ head 5 ∷ taken 13 80 true ∷ place 3 ∷ tail 4 ∷ []

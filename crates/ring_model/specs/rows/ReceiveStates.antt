@@ -19,7 +19,7 @@ pub record RxStateRows : Type 0 where
       ≡ None ∷ control 1 ∷ None ∷ []
   -- The controller serves before the driver sees the answer. A segment is taken with the length and EOP it was stored
   -- with.
-  pub served_while_asked : rx_notes off_8 (Post 1 ∷ Post 2 ∷ Publish ∷ Control AskEnable ∷ Control LookAsked ∷ Control Answer ∷ Look ∷ Post 3 ∷ Fetch ∷ Look ∷ LoadQuiet ∷ Control LookAsked
+  pub completed_while_asked : rx_notes off_8 (Post 1 ∷ Post 2 ∷ Publish ∷ Control AskEnable ∷ Control LookAsked ∷ Control Answer ∷ Look ∷ Post 3 ∷ Fetch ∷ Look ∷ LoadQuiet ∷ Control LookAsked
       ∷ Store 1 false ∷ Look ∷ Head ∷ LoadQuiet ∷ Post 4 ∷ Publish ∷ Fetch ∷ Store 2048 true ∷ Head ∷ Control LookAnswered ∷ StoreQuiet ∷ Take ∷ Take ∷ Take ∷ Look ∷ [])
       ≡ place 0 ∷ place 1 ∷ tail 2 ∷ control 1 ∷ control 1 ∷ control 2 ∷ free 2 ∷ place 2 ∷ fetched 0 1 ∷ free 2 ∷ quiet 0 ∷ control 2 ∷ place 0 ∷ free 1 ∷ head 1 ∷ quiet 0 ∷ place 3 ∷ tail 4
       ∷ fetched 1 2 ∷ place 1 ∷ head 2 ∷ control 2 ∷ quiet 1 ∷ taken 1 1 false ∷ taken 2 2048 true ∷ nothing ∷ free 2 ∷ []

@@ -43,7 +43,7 @@ pub record WorldRows : Type 0 where
   -- Of the 32 moves, two have no queue and three cannot happen.
   pub mixed_count : moves_happened two_pairs mixed ≡ 27
   pub posted : map (λ (r : RxRing ℕ). length r.ledger.posted) (after_moves two_pairs mixed).receive ≡ 1 ∷ 2 ∷ []
-  pub taken_lengths : map (λ (r : RxRing ℕ). length r.ledger.given) (after_moves two_pairs mixed).receive ≡ 1 ∷ 1 ∷ []
-  pub sent : map (λ (r : TxRing ℕ). length r.ledger.served) (after_moves two_pairs mixed).transmit ≡ 0 ∷ 1 ∷ []
+  pub taken_lengths : map (λ (r : RxRing ℕ). length r.ledger.reaped) (after_moves two_pairs mixed).receive ≡ 1 ∷ 1 ∷ []
+  pub sent : map (λ (r : TxRing ℕ). length r.ledger.completed) (after_moves two_pairs mixed).transmit ≡ 0 ∷ 1 ∷ []
   pub enabling_notes : notes_in two_off enabling
       ≡ control 1 ∷ control 1 ∷ control 0 ∷ control 1 ∷ None ∷ control 2 ∷ control 0 ∷ control 1 ∷ None ∷ control 2 ∷ None ∷ free 0 ∷ None ∷ ready 0 ∷ []

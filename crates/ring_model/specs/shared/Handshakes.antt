@@ -29,6 +29,12 @@ is_answered Cleared = true
 is_answered Tailed = true
 is_answered _ = false
 
+-- All buffers have come back, and the driver is clearing the queue's words.
+abbrev pub is_emptied : DriverState → Bool
+is_emptied Cleared = true
+is_emptied Tailed = true
+is_emptied _ = false
+
 abbrev pub is_new : DriverState → Bool
 is_new New = true
 is_new _ = false

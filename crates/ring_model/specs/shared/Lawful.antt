@@ -2,7 +2,7 @@
 use Rattle.std.specs.Prelude.{◌≡◌, ◌≢◌, ℕ, ◌%◌, ◌<◌, ◌≤◌, Bool, ◌&&◌, ◌==◌, List, length, Some, slice_get, if◌then◌else◌}
 use Rattle.ring_model.specs.declared.states.Owner.{Owner}
 use Rattle.ring_model.specs.declared.states.Owner.TheVariants.{Driver, Ring, Controller}
-use Rattle.ring_model.specs.shared.Queue.{Ledger, Queue, posted_count, served_count, returned_count}
+use Rattle.ring_model.specs.shared.Queue.{Ledger, Queue, posted_count, completed_count, returned_count}
 
 -- The items that are out: from `first` up to, but not including, `past`. The controller may hold the item `serving`.
 pub record Window : Type 0 where
@@ -12,8 +12,8 @@ pub record Window : Type 0 where
   pub past : ℕ
   pub held : Bool
 
-abbrev pub window : {Posted Served Given : Type 0} → Queue Posted Served Given → Window
-window q = record { size = q.size; first = returned_count q; serving = served_count q; past = posted_count q; held = q.held }
+abbrev pub window : {Posted Completed Reaped : Type 0} → Queue Posted Completed Reaped → Window
+window q = record { size = q.size; first = returned_count q; serving = completed_count q; past = posted_count q; held = q.held }
 
 -- The owner of the place of an item that is out.
 abbrev pub holder : Window → ℕ → Owner
@@ -27,7 +27,7 @@ pub record IsLawfulMap (w : Window) (owners : List Owner) : Type 0 where
   pub home : (place : ℕ) → place < w.size → ((k : ℕ) → w.first ≤ k → k < w.past → (k % w.size) ≢ place) → slice_get owners place ≡ Some Driver
 
 -- The ledgers of this epoch and of every ended one are lawful for the queue's size, and so is its owner map.
-pub record IsLawfulQueue {Posted Served Given : Type 0} (IsLawful : ℕ → Ledger Posted Served Given → Type 0) (q : Queue Posted Served Given) : Type 0 where
+pub record IsLawfulQueue {Posted Completed Reaped : Type 0} (IsLawful : ℕ → Ledger Posted Completed Reaped → Type 0) (q : Queue Posted Completed Reaped) : Type 0 where
   pub ledger : IsLawful q.size q.ledger
-  pub past : (k : ℕ) (l : Ledger Posted Served Given) → slice_get q.past k ≡ Some l → IsLawful q.size l
+  pub past : (k : ℕ) (l : Ledger Posted Completed Reaped) → slice_get q.past k ≡ Some l → IsLawful q.size l
   pub map : IsLawfulMap (window q) q.owners

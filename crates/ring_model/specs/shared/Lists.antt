@@ -7,7 +7,7 @@ IsBeginning {X} xs ys = (rest : List X) × (xs ++ rest ≡ ys)
 
 -- The contents of the place of each item from `first` up to, but not including, `past`.
 abbrev pub EachItem : {X : Type 0} → ℕ → ℕ → ℕ → (ℕ → X) → (ℕ → X) → Type 0
-EachItem n first past lies wanted = (k : ℕ) → first ≤ k → k < past → lies (k % n) ≡ wanted k
+EachItem n first past found wanted = (k : ℕ) → first ≤ k → k < past → found (k % n) ≡ wanted k
 
 -- The contents of the slot at a place, or `None` if there is no such place or the slot is empty.
 abbrev pub slot_at : {X : Type 0} → List (Option X) → ℕ → Option X

@@ -5,20 +5,21 @@ use Rattle.ring_model.specs.declared.states.Owner.{Owner}
 use Rattle.ring_model.specs.declared.states.Owner.TheVariants.{Driver, Ring, Controller}
 use Rattle.ring_model.specs.declared.states.DriverState.TheVariants.{New, Cleared, Tailed}
 use Rattle.ring_model.specs.declared.handshake.Handshake.{Handshake}
-use Rattle.ring_model.specs.shared.QueueSteps.{QueueStep, Post, Publish, Look, Fetch, Serve, Head, Give, Shake, Reclaim, ClearHead, ClearTail, Renew}
+use Rattle.ring_model.specs.shared.QueueSteps.{QueueStep, Post, Publish, Look, Fetch, Complete, Head, Reap, Shake, Reclaim, ClearHead, ClearTail, Renew}
 use Rattle.ring_model.specs.shared.Frames.{ends_frame}
 use Rattle.ring_model.specs.shared.Handshakes.{first_handshake, is_cleared, is_live, is_open, is_serving, is_stopped, is_tailed, enables, may_shake, shaken}
 
--- What the driver posted; what the controller served, by storing or sending; and what the driver took or cleaned.
-pub record Ledger (Posted Served Given : Type 0) : Type 0 where
+-- What the driver posted; what the controller completed, by storing or sending; and what the driver reaped, by
+-- taking or cleaning.
+pub record Ledger (Posted Completed Reaped : Type 0) : Type 0 where
   pub posted : List Posted
-  pub served : List Served
-  pub given : List Given
+  pub completed : List Completed
+  pub reaped : List Reaped
 
-pub record Queue (Posted Served Given : Type 0) : Type 0 where
+pub record Queue (Posted Completed Reaped : Type 0) : Type 0 where
   pub size : ℕ
-  pub past : List (Ledger Posted Served Given)  -- the ledgers of the epochs that ended
-  pub ledger : Ledger Posted Served Given  -- of this epoch
+  pub past : List (Ledger Posted Completed Reaped)  -- the ledgers of the epochs that ended
+  pub ledger : Ledger Posted Completed Reaped  -- of this epoch
   pub owners : List Owner
   pub published : ℕ  -- counts of items of this epoch's ledger
   pub known : ℕ
@@ -27,12 +28,12 @@ pub record Queue (Posted Served Given : Type 0) : Type 0 where
   pub held : Bool
   pub handshake : Handshake
 
-module _ {Posted Served Given : Type 0} where
-  abbrev pub no_ledger : Ledger Posted Served Given
-  no_ledger = record { posted = []; served = []; given = [] }
+module _ {Posted Completed Reaped : Type 0} where
+  abbrev pub no_ledger : Ledger Posted Completed Reaped
+  no_ledger = record { posted = []; completed = []; reaped = [] }
 
   -- A new queue of `n` places, all of them the driver's.
-  abbrev pub opening : ℕ → Bool → Queue Posted Served Given
+  abbrev pub opening : ℕ → Bool → Queue Posted Completed Reaped
   opening n enabled = record {
     size = n;
     past = [];
@@ -46,53 +47,53 @@ module _ {Posted Served Given : Type 0} where
     handshake = first_handshake enabled;
   }
 
-  abbrev pub posted_count : Queue Posted Served Given → ℕ
+  abbrev pub posted_count : Queue Posted Completed Reaped → ℕ
   posted_count q = length q.ledger.posted
 
-  abbrev pub served_count : Queue Posted Served Given → ℕ
-  served_count q = length q.ledger.served
+  abbrev pub completed_count : Queue Posted Completed Reaped → ℕ
+  completed_count q = length q.ledger.completed
 
-  abbrev pub given_count : Queue Posted Served Given → ℕ
-  given_count q = length q.ledger.given
+  abbrev pub reaped_count : Queue Posted Completed Reaped → ℕ
+  reaped_count q = length q.ledger.reaped
 
-  -- The number of items that are back with the driver: given back or reclaimed.
-  abbrev pub returned_count : Queue Posted Served Given → ℕ
-  returned_count q = given_count q + q.reclaimed
+  -- The number of items that are back with the driver: reaped or reclaimed.
+  abbrev pub returned_count : Queue Posted Completed Reaped → ℕ
+  returned_count q = reaped_count q + q.reclaimed
 
-  -- The place after the last served item.
-  abbrev pub next_head : Queue Posted Served Given → ℕ
-  next_head q = served_count q % q.size
+  -- The place after the last completed item.
+  abbrev pub next_head : Queue Posted Completed Reaped → ℕ
+  next_head q = completed_count q % q.size
 
-  -- A disabling may be answered: nothing is held, the head is stored, and the last served item ends a frame.
-  abbrev pub is_settled : (Served → Bool) → Queue Posted Served Given → Bool
-  is_settled ends q = not q.held && (q.head == next_head q) && ends_frame ends true q.ledger.served
+  -- A disabling may be answered: nothing is held, the head is stored, and the last completed item ends a frame.
+  abbrev pub is_settled : (Completed → Bool) → Queue Posted Completed Reaped → Bool
+  is_settled ends q = not q.held && (q.head == next_head q) && ends_frame ends true q.ledger.completed
 
   -- The owners after the place of item `k` passes to `who`.
-  abbrev pub passed_to : Owner → Queue Posted Served Given → ℕ → List Owner
+  abbrev pub passed_to : Owner → Queue Posted Completed Reaped → ℕ → List Owner
   passed_to who q k = slice_set q.owners (k % q.size) who
 
-  abbrev pub may : Queue Posted Served Given → QueueStep Posted Served Given → Bool
-  may q (Post x) = is_open q.handshake.driver && nat_lt (posted_count q - given_count q) (q.size - 1)
+  abbrev pub may : Queue Posted Completed Reaped → QueueStep Posted Completed Reaped → Bool
+  may q (Post x) = is_open q.handshake.driver && nat_lt (posted_count q - reaped_count q) (q.size - 1)
   may q Publish = is_open q.handshake.driver
   may q Look = is_serving q.handshake.controller
-  may q Fetch = is_serving q.handshake.controller && not q.held && nat_lt (served_count q) q.known
-  may q (Serve x) = q.held
+  may q Fetch = is_serving q.handshake.controller && not q.held && nat_lt (completed_count q) q.known
+  may q (Complete x) = q.held
   may q Head = is_serving q.handshake.controller && not q.held
-  may q (Give x) = is_live q.handshake.driver && nat_lt (given_count q) (served_count q)
+  may q (Reap x) = is_live q.handshake.driver && nat_lt (reaped_count q) (completed_count q)
   may q (Shake c settled) = may_shake q.handshake c settled
   may q Reclaim = is_stopped q.handshake.driver && nat_lt (returned_count q) (posted_count q)
   may q ClearHead = is_stopped q.handshake.driver && (returned_count q == posted_count q)
   may q ClearTail = is_cleared q.handshake.driver
   may q Renew = is_tailed q.handshake.driver
 
-  abbrev pub by : Queue Posted Served Given → QueueStep Posted Served Given → Queue Posted Served Given
+  abbrev pub by : Queue Posted Completed Reaped → QueueStep Posted Completed Reaped → Queue Posted Completed Reaped
   by q (Post x) = record q { ledger = record q.ledger { posted = q.ledger.posted ++ x ∷ [] }; owners = passed_to Ring q (posted_count q) }
   by q Publish = record q { published = posted_count q }
   by q Look = record q { known = q.published }
-  by q Fetch = record q { owners = passed_to Controller q (served_count q); held = true }
-  by q (Serve x) = record q { ledger = record q.ledger { served = q.ledger.served ++ x ∷ [] }; owners = passed_to Ring q (served_count q); held = false }
+  by q Fetch = record q { owners = passed_to Controller q (completed_count q); held = true }
+  by q (Complete x) = record q { ledger = record q.ledger { completed = q.ledger.completed ++ x ∷ [] }; owners = passed_to Ring q (completed_count q); held = false }
   by q Head = record q { head = next_head q }
-  by q (Give x) = record q { ledger = record q.ledger { given = q.ledger.given ++ x ∷ [] }; owners = passed_to Driver q (given_count q) }
+  by q (Reap x) = record q { ledger = record q.ledger { reaped = q.ledger.reaped ++ x ∷ [] }; owners = passed_to Driver q (reaped_count q) }
   by q (Shake c settled) = record q { known = if enables q.handshake c then 0 else q.known; handshake = shaken q.handshake c }
   by q Reclaim = record q { owners = passed_to Driver q (returned_count q); reclaimed = q.reclaimed + 1 }
   by q ClearHead = record q { head = 0; handshake = record q.handshake { driver = Cleared } }

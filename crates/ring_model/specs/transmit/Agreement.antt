@@ -24,10 +24,10 @@ module _ {Payload Buffer : Type 0} (size : Payload → ℕ) (filled : Posting Pa
   abbrev pub posting_word : Bool → Posting Payload → ℕ
   posting_word reported p = if reported && p.rs then done_word else tx_word (size p.payload) p.eop p.rs p.paylen
 
-  abbrev pub tx_says : (ℕ → Bool) → ℕ → Option (Posting Payload) → Option (Posting Payload) → ℕ
-  tx_says told k None sent = 0
-  tx_says told k (Some p) sent = posting_word (told k) p
+  abbrev pub tx_word_of_item : (ℕ → Bool) → ℕ → Option (Posting Payload) → Option (Posting Payload) → ℕ
+  tx_word_of_item told k None sent = 0
+  tx_word_of_item told k (Some p) sent = posting_word (told k) p
 
-  abbrev pub tx_lies : Option (Posting Payload) → Option (Posting Payload) → Option Buffer
-  tx_lies None sent = None
-  tx_lies (Some p) sent = Some (filled p)
+  abbrev pub tx_buffer_of_item : Option (Posting Payload) → Option (Posting Payload) → Option Buffer
+  tx_buffer_of_item None sent = None
+  tx_buffer_of_item (Some p) sent = Some (filled p)

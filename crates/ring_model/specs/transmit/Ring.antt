@@ -2,7 +2,7 @@
 use Rattle.std.specs.Prelude.{ℕ, Bool, true, false, List, Option, slice_get}
 use Rattle.ring_model.specs.declared.states.Completion.{Completion}
 use Rattle.ring_model.specs.shared.Frames.{Bytes, Piece, ends_frame}
-use Rattle.ring_model.specs.shared.Queue.{Ledger, Queue, opening, given_count, served_count}
+use Rattle.ring_model.specs.shared.Queue.{Ledger, Queue, opening, reaped_count, completed_count}
 use Rattle.ring_model.specs.shared.Segments.{Segment, piece_of, ends_segment, number_of_segment}
 
 -- What the driver posts: a segment, whether it asks for a report (RS), and the length of the whole frame (PAYLEN).
@@ -55,8 +55,8 @@ module _ {Payload : Type 0} where
 
   -- The next posting to send, in order.
   abbrev pub next_posting : TxRing Payload → Option (Posting Payload)
-  next_posting r = slice_get r.ledger.posted (served_count r.queue)
+  next_posting r = slice_get r.ledger.posted (completed_count r.queue)
 
   -- The next posting to clean, in order.
   abbrev pub next_sent : TxRing Payload → Option (Posting Payload)
-  next_sent r = slice_get r.ledger.served (given_count r.queue)
+  next_sent r = slice_get r.ledger.completed (reaped_count r.queue)

@@ -8,7 +8,7 @@ use Rattle.ring_model.specs.declared.notes.FetchedSegment.{FetchedSegment}
 use Rattle.ring_model.specs.declared.notes.Note.{Note}
 use Rattle.ring_model.specs.declared.notes.Note.TheVariants as note
 use Rattle.ring_model.specs.shared.Handshakes.{is_live, control_value, enables}
-use Rattle.ring_model.specs.shared.Queue.{posted_count, served_count, given_count, returned_count, next_head, is_settled, may, by}
+use Rattle.ring_model.specs.shared.Queue.{posted_count, completed_count, reaped_count, returned_count, next_head, is_settled, may, by}
 use Rattle.ring_model.specs.shared.QueueSteps as queue
 use Rattle.ring_model.specs.shared.Schedules.{after_all, happened, next, told_by, IsReached}
 use Rattle.ring_model.specs.transmit.Ring.{Posting, TxRing, tx_opening, are_whole, ends_posting, next_posting, next_sent}
@@ -43,7 +43,7 @@ module _ {Payload : Type 0} where
   -- The posting is sent and the head stored. A report is owed if the posting asked for one.
   abbrev pub sent_one : TxRing Payload → Option (Posting Payload) → TxRing Payload
   sent_one r None = r
-  sent_one r (Some p) = record r { queue = by (by r.queue (queue.Serve p)) queue.Head; owed = p.rs }
+  sent_one r (Some p) = record r { queue = by (by r.queue (queue.Complete p)) queue.Head; owed = p.rs }
 
   -- If the load shows the report, all items up to it are seen reported.
   abbrev pub loaded_report : TxRing Payload → Option ℕ → TxRing Payload
@@ -52,7 +52,7 @@ module _ {Payload : Type 0} where
 
   abbrev pub cleaned_one : TxRing Payload → Option (Posting Payload) → TxRing Payload
   cleaned_one r None = r
-  cleaned_one r (Some p) = record r { queue = by r.queue (queue.Give p.number) }
+  cleaned_one r (Some p) = record r { queue = by r.queue (queue.Reap p.number) }
 
   -- A new epoch: the lists and the counts of reports are empty again.
   abbrev pub tx_renewed : TxRing Payload → TxRing Payload
@@ -72,7 +72,7 @@ module _ {Payload : Type 0} where
   tx_can r Send = r.held
   tx_can r Report = r.owed
   tx_can r LoadReport = is_live r.handshake.driver && is_there (oldest_report r)
-  tx_can r Clean = is_live r.handshake.driver && nat_lt (given_count r.queue) r.seen_reported
+  tx_can r Clean = is_live r.handshake.driver && nat_lt (reaped_count r.queue) r.seen_reported
   tx_can r (Control c) = may r.queue (queue.Shake c (tx_settled r))
   tx_can r Reclaim = may r.queue queue.Reclaim
   tx_can r ClearHead = may r.queue queue.ClearHead
@@ -85,7 +85,7 @@ module _ {Payload : Type 0} where
   tx_changed r Look = record r { queue = by r.queue queue.Look }
   tx_changed r Fetch = record r { queue = by r.queue queue.Fetch }
   tx_changed r Send = sent_one r (next_posting r)
-  tx_changed r Report = record r { reported = served_count r.queue; owed = false }
+  tx_changed r Report = record r { reported = completed_count r.queue; owed = false }
   tx_changed r LoadReport = loaded_report r (oldest_report r)
   tx_changed r Clean = cleaned_one r (next_sent r)
   tx_changed r (Control c) = record r { queue = by r.queue (queue.Shake c (tx_settled r)); owed = not (enables r.handshake c) && r.owed }
@@ -124,16 +124,16 @@ seen_place r None = None
 seen_place r (Some j) = if nat_lt j r.reported then Some (j % r.size) else None
 
 abbrev pub report_note : TxRing ℕ → Bool → Note
-report_note r false = note.Place ((served_count r.queue - 1) % r.size)
+report_note r false = note.Place ((completed_count r.queue - 1) % r.size)
 report_note r true = note.Head (next_head r.queue)
 
 -- The note of a step. Here a posting's payload is its number of bytes.
 abbrev pub tx_note_of : TxRing ℕ → TxStep (Posting ℕ) → Note
 tx_note_of r (Post p) = note.Place (posted_count r.queue % r.size)
 tx_note_of r Publish = note.Tail (posted_count r.queue % r.size)
-tx_note_of r Look = note.Ready (r.published - served_count r.queue)
+tx_note_of r Look = note.Ready (r.published - completed_count r.queue)
 tx_note_of r Fetch = note.Sending (next_head r.queue) (fetched_segment (next_posting r))
-tx_note_of r Send = note.Head ((served_count r.queue + 1) % r.size)
+tx_note_of r Send = note.Head ((completed_count r.queue + 1) % r.size)
 tx_note_of r Report = report_note r (by_head r.completion)
 tx_note_of r LoadReport = note.Reported (seen_place r (oldest_report r))
 tx_note_of r Clean = note.Buffer (number_of (next_sent r))

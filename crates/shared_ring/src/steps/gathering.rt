@@ -39,7 +39,7 @@ impl<D, C, R: Direction<D, C>> Ring<D, C, R> {
             return Err(AllocError);
         };
         table.shared.load::<Deal>(&mut seat, count + CONTROL);
-        let served = table.shared.split_seat::<Halve>(&mut seat);
+        let completed = table.shared.split_seat::<Halve>(&mut seat);
         let ring = Ring { table, room };
         Ok((
             ring,
@@ -50,7 +50,7 @@ impl<D, C, R: Direction<D, C>> Ring<D, C, R> {
                 events: PhantomData,
             },
             EndSeat {
-                seat: served,
+                seat: completed,
                 size,
                 completion,
                 events: PhantomData,

@@ -3,7 +3,7 @@
 ghost use Rattle.std.specs.Prelude.{◌≡◌, ◌<◌, length, IfSome, IfNone, Some};
 ghost use Rattle.buffer_pool.specs.Buffer.{Buffer, blank};
 ghost use Rattle.shared_ring.specs.Ends.{posted, returned, fill_place, next_place, serve_place, held, driver_of, controller_of, grown};
-ghost use Rattle.shared_ring.specs.Own.{MayLoad, MayClear, MayTake, MayEnd, MayStore, MayGive, Missed, Came};
+ghost use Rattle.shared_ring.specs.Own.{MayLoad, MayClear, MayTake, MayEnd, MayStore, MayReap, Missed, Came};
 ghost use Rattle.shared_ring.specs.Slots.{empty_slots};
 
 use super::{EndSeat, Ring};
@@ -133,7 +133,7 @@ impl<D, C, R: Direction<D, C>> EndSeat<ControllerEvent<C>, D, C, R> {
         requires own { self.old.table ≡ ring.now }
         requires place { place ≡ serve_place (controller_of R.form self.old) }
         requires held { (h : Buffer) × (held (controller_of R.form self.old) ≡ Some h) }
-        requires may { MayGive R.form P.event self.old.table.slots self.old.completion self.old.events place index value buf }
+        requires may { MayReap R.form P.event self.old.table.slots self.old.completion self.old.events place index value buf }
         ensures { self.new ≡ grown self.old (P.event self.old.table.slots self.old.events index value buf) }
     {
         put_in(&ring.table, &mut self.seat, place as usize, buf);

@@ -37,8 +37,8 @@ pub returns-then-owes_report-clause-idle : goal.returns-then-owes_report-clause-
 returns-then-owes_report-clause-idle c =
     let last = ended (goal.at.returns-then-owes_report-clause-idle c).After-owes_report in record {
       unheld = ap (λ (x : TxControlled). x.held) c.report.ensures.record ∙ ap (λ (x : TxControlled). x.held) last.same;
-      between = ap (λ (x : TxControlled). are_whole x.served) c.report.ensures.record ∙ sent_whole _ _ _ _ last;
-      head = λ _. same_head c.send_segment.new.end c.report.new.self last.head (ap (λ (e : ControllerSide). e.table) c.report.ensures.step) (ap (λ (x : TxControlled). x.head) c.report.ensures.record) (ap (λ (x : TxControlled). x.served) c.report.ensures.record);
+      between = ap (λ (x : TxControlled). are_whole x.completed) c.report.ensures.record ∙ sent_whole _ _ _ _ last;
+      head = λ _. same_head c.send_segment.new.end c.report.new.self last.head (ap (λ (e : ControllerSide). e.table) c.report.ensures.step) (ap (λ (x : TxControlled). x.head) c.report.ensures.record) (ap (λ (x : TxControlled). x.completed) c.report.ensures.record);
       paid = ap (λ (x : TxControlled). x.barred) c.report.ensures.record;
     }
 

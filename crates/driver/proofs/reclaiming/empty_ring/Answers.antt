@@ -25,7 +25,7 @@ loop-end-preserved o c =
     let home = c.in-Some.ensures in
     record {
       own = ap (λ (d : DriverSide o.R.Direction.form). d.table) home.step ∙ c.loop-end.invariant.own;
-      stopped = ap (λ (x : Driven o.R.Direction.Posted o.R.Direction.Given). is_stopped x.state) home.same ∙ c.loop-end.invariant.stopped;
+      stopped = ap (λ (x : Driven o.R.Direction.Posted o.R.Direction.Reaped). is_stopped x.state) home.same ∙ c.loop-end.invariant.stopped;
       back = back-one o.number old c.args.stash.now now c.loop-end.stash new c.push.new.self c.in-Some.buf
           c.loop-end.invariant.back home (c.requires.1.1.1.1.1.0 home.item c.in-Some.buf home.is_of) c.push.ensures;
       known = home.known ∙ c.loop-end.invariant.known;

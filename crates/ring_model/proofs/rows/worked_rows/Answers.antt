@@ -25,7 +25,7 @@ returns-clause-follow c = record {
   begun = λ ps f count before len. record { some_bytes = omega arith; few_bytes = omega arith; segments = omega arith; descriptors = omega arith; most = omega arith; least = λ e. absurd (false≢true e) };
   nothing = λ ps f count before len fits. let bound = fits.some_bytes in omega arith;
   full_buffer = λ ps f count before len. record { some_bytes = omega arith; few_bytes = omega arith; segments = omega arith; descriptors = omega arith; most = omega arith; least = λ e. omega arith };
-  over_full = λ ps f count before len fits. let bound = fits.few_bytes in omega arith;
+  quiesced_full = λ ps f count before len fits. let bound = fits.few_bytes in omega arith;
   fifteenth = λ ps f count before len. record { some_bytes = omega arith; few_bytes = omega arith; segments = omega arith; descriptors = omega arith; most = omega arith; least = λ e. omega arith };
   too_long = λ ps f count before len fits. let bound = fits.most in omega arith;
   sixteenth = λ ps f count before len fits. let bound = fits.segments in omega arith;
@@ -58,7 +58,7 @@ returns-clause-postings c = record {
   too_short = λ f l m. let b = begun 13 true true 13 f l m in let x = b.long_enough in absurd (omega arith);
   nothing = λ f l m. let b = begun 0 false false 60 f l m in let x = b.some_bytes in absurd (omega arith);
   full_buffer = begins 2048 false false 15000 (record { some_bytes = omega arith; few_bytes = omega arith; asks_at_end = λ e. absurd (false≢true e); long_enough = omega arith; short_enough = omega arith; within = omega arith; whole = λ e. absurd (false≢true e) });
-  over_full = λ f l m. let b = begun 2049 false false 15000 f l m in let x = b.few_bytes in absurd (omega arith);
+  quiesced_full = λ f l m. let b = begun 2049 false false 15000 f l m in let x = b.few_bytes in absurd (omega arith);
   report_at_end = begins 60 true true 60 (record { some_bytes = omega arith; few_bytes = omega arith; asks_at_end = λ e. refl; long_enough = omega arith; short_enough = omega arith; within = omega arith; whole = λ e. refl });
   no_report = begins 60 true false 60 (record { some_bytes = omega arith; few_bytes = omega arith; asks_at_end = λ e. refl; long_enough = omega arith; short_enough = omega arith; within = omega arith; whole = λ e. refl });
   report_too_early = λ f l m. let b = begun 60 false true 120 f l m in false≢true (b.asks_at_end refl);

@@ -14,7 +14,7 @@ loop-preserved c =
     let opened : is_open (driver_state c.loop.driver) ≡ true = ap (λ (x : RxDriven). is_open x.state) before.did ∙ c.requires.open in
     let grew = ap (λ (x : RxDriven). length x.posted) did ∙ length-append (posted c.loop.driver) (c.in-Some.buf.number ∷ []) in
     let count = c.loop.invariant.count in
-    let same = ap (λ (x : RxDriven). length x.given + x.reclaimed) before.did in
+    let same = ap (λ (x : RxDriven). length x.reaped + x.reclaimed) before.did in
     let within : returned c.loop.driver ≤ length (posted c.loop.driver) = let most = c.room-end.ensures.most in let room = c.room-end.ensures.value in omega arith in
     let step = c.post.ensures.step ∙ ap (λ (b : Buffer). driver_grown c.loop.driver (driver.Posted (fill_place c.loop.driver) 0 b)) c.in-Some.ensures.empty in record {
       filled = filled-trans _ _ _ _ _ _ before

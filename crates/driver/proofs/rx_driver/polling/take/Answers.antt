@@ -28,7 +28,7 @@ loop-count-preserved-then-eop c =
       few = omega arith;
       goes = goes-one most (most - c.loop-count.count) c.args.driver.now c.args.stash.now c.loop-count.driver c.loop-count.stash c.loop-count.invariant.goes
           (most - (c.loop-count.count + 1)) c.poll.new.self c.post_one.new.driver c.post_one.new.stash c.in-Segment.buf true some (omega arith) took
-          c.post_one.ensures.step c.post_one.ensures.left (ap (λ (x : RxDriven). x.given) c.post_one.ensures.posted.did);
+          c.post_one.ensures.step c.post_one.ensures.left (ap (λ (x : RxDriven). x.reaped) c.post_one.ensures.posted.did);
     }
 
 pub loop-count-preserved : goal.loop-count-preserved
@@ -43,7 +43,7 @@ loop-count-preserved c =
       few = c.loop-count.invariant.few;
       goes = goes-one most (most - c.loop-count.count) c.args.driver.now c.args.stash.now c.loop-count.driver c.loop-count.stash c.loop-count.invariant.goes
           (most - c.loop-count.count) c.poll.new.self c.post_one.new.driver c.post_one.new.stash c.in-Segment.buf false some refl took
-          c.post_one.ensures.step c.post_one.ensures.left (ap (λ (x : RxDriven). x.given) c.post_one.ensures.posted.did);
+          c.post_one.ensures.step c.post_one.ensures.left (ap (λ (x : RxDriven). x.reaped) c.post_one.ensures.posted.did);
     }
 
 pub returns-in_default : goal.returns-in_default

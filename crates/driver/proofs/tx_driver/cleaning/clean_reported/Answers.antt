@@ -10,7 +10,7 @@ loop-preserved c =
     let i = c.loop.invariant in
     let one = c.clean-buf.ensures in
     let put = c.push.ensures in
-    let grew = ap (λ (x : TxDriven). length x.given) one.same in
+    let grew = ap (λ (x : TxDriven). length x.reaped) one.same in
     let longer = ap (λ (ns : List ℕ). length ns) put in
     record {
       own = ap (λ s. s.table) one.step ∙ i.own;

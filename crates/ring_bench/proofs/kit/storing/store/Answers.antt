@@ -16,9 +16,9 @@ returns c =
     let fetched = c.fetch-buf.ensures in
     let back = c.write_back.ensures in
     let before = stored c.fetch-buf.new.self in
-    let all_before = All-same (λ (s : Segment Bytes). IsWhole c.args.frame.now (piece_of s)) before (stored c.args.controller.now) (ap (λ (x : RxControlled). x.served) fetched.same) can.stored_only.only in
+    let all_before = All-same (λ (s : Segment Bytes). IsWhole c.args.frame.now (piece_of s)) before (stored c.args.controller.now) (ap (λ (x : RxControlled). x.completed) fetched.same) can.stored_only.only in
     let bytes = ap (λ (b : Buffer). b.bytes) c.fill.ensures in
-    let all = whole_after piece_of c.args.frame.now before (stored c.write_back.new.self) _ all_before (record { bytes = bytes; last = refl }) (ap (λ (x : RxControlled). x.served) back.record) in
+    let all = whole_after piece_of c.args.frame.now before (stored c.write_back.new.self) _ all_before (record { bytes = bytes; last = refl }) (ap (λ (x : RxControlled). x.completed) back.record) in
     record {
       stored_only = record { own = ap (λ s. s.table) back.step ∙ (ap (λ s. s.table) fetched.step ∙ can.stored_only.own); only = all };
       none_unfinished = none_unfinished piece_of c.args.frame.now (stored c.write_back.new.self) all;

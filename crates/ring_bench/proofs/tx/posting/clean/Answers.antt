@@ -28,11 +28,11 @@ loop-preserved c =
     let back = c.clean.ensures in let item = back.item in let gave = c.give.ensures in let kept = c.loop.invariant in
     let number : c.clean.result.number ≡ item.number = ap (λ (b : Buffer). b.number) back.is in
     let table = ap (λ (d : DriverSide). d.table) back.step in let way = ap (λ (d : DriverSide). d.completion) back.step in
-    let did : driver_record c.clean.new.self ≡ record (driver_record c.loop.driver) { given = cleaned c.loop.driver ++ item.number ∷ [] } =
-    back.same ∙ ap (λ (k : ℕ). record (driver_record c.loop.driver) { given = cleaned c.loop.driver ++ k ∷ [] }) number in
+    let did : driver_record c.clean.new.self ≡ record (driver_record c.loop.driver) { reaped = cleaned c.loop.driver ++ item.number ∷ [] } =
+    back.same ∙ ap (λ (k : ℕ). record (driver_record c.loop.driver) { reaped = cleaned c.loop.driver ++ k ∷ [] }) number in
     let supplies = supplies-clean c.loop.stock c.give.new.self (driver_size c.loop.driver) (driver_record c.loop.driver) item kept.supplies back.there (gave.back ∙ ap (with_number c.loop.stock) number)
     (λ out h. gave.shared out (subst (λ (k : ℕ). Shares c.loop.stock (k ∷ out)) (sym number) h)) in
-    let grew = ap (λ (x : TxDriven). length x.given) did ∙ length-append (cleaned c.loop.driver) (item.number ∷ []) in
+    let grew = ap (λ (x : TxDriven). length x.reaped) did ∙ length-append (cleaned c.loop.driver) (item.number ∷ []) in
     record {
       only = only_cleaned-next c.args.driver.now c.loop.driver c.clean.new.self (cleaned c.loop.driver ++ item.number ∷ []) kept.only table way did;
       live = ap (λ (x : TxDriven). is_live x.state) did ∙ kept.live;

@@ -29,7 +29,7 @@ loop-preserved c =
           (ap (λ (d : DriverSide). d.table) did.step) (ap (λ (d : DriverSide). d.completion) did.step) did.record;
       plan = ap (λ (p : Progress). p.plan) next.one ∙ kept.plan;
       count = omega (arith, ap (λ (p : Progress). p.posted) next.one);
-      cleaned = ap (λ (x : TxDriven). x.given) did.record ∙ kept.cleaned;
+      cleaned = ap (λ (x : TxDriven). x.reaped) did.record ∙ kept.cleaned;
     }
 
 pub publish-requires-clause-whole : goal.publish-requires-clause-whole

@@ -18,8 +18,8 @@ load-requires g c =
       deal-asks g.R.Direction.form c.requires.law c.args.size c.args.completion c.in-Ok.table.shared.key c.in-Ok.table.shared.table_id.slots c.in-Ok.seat.id c.in-Ok.seat.me (omega arith) c.requires.reports made.5 (made.1 ∙ ap length c.in_ok-blanks.ensures ∙ length-replicate c.args.size blank) made.4,
     )
 
-pub split_seat-served-requires : goal.split_seat-served-requires
-split_seat-served-requires g c =
+pub split_seat-completed-requires : goal.split_seat-completed-requires
+split_seat-completed-requires g c =
     let made = c.in-Ok.ensures.ok in
     let big = words-big c.args.size c.args.completion in
     let words : c.in-Ok.table.shared.table_id.words ≡ words_of c.args.size c.args.completion = made.0 ∙ ap length (c.as_slice.ensures.value ∙ c.in_ok-words.ensures) ∙ length-replicate (words_of c.args.size c.args.completion) 0 in (

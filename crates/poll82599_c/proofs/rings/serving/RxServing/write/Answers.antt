@@ -12,7 +12,7 @@ invariant_of-self c =
     let s = segment c.fill.new.self c.args.eop in
     serving_ended _ c.self.inside.end _ s _
     (ap (λ (x : ControllerSide). x.table) c.set_head.ensures.step ∙ (ap (λ (x : ControllerSide). x.table) c.write_back.ensures.step ∙ (ap (λ (x : ControllerSide). x.table) c.fetch-buf.ensures.step ∙ c.self.invariant.own)))
-    (ap (λ (x : RxControlled). x.served) c.set_head.ensures.record ∙ (ap (λ (x : RxControlled). x.served) c.write_back.ensures.record ∙ ap (λ (x : RxControlled). x.served ++ s ∷ []) c.fetch-buf.ensures.same))
+    (ap (λ (x : RxControlled). x.completed) c.set_head.ensures.record ∙ (ap (λ (x : RxControlled). x.completed) c.write_back.ensures.record ∙ ap (λ (x : RxControlled). x.completed ++ s ∷ []) c.fetch-buf.ensures.same))
     c.if-eop.true
 
 pub invariant_of-self-else-eop : goal.invariant_of-self-else-eop
@@ -20,7 +20,7 @@ invariant_of-self-else-eop c =
     let s = segment c.fill.new.self c.args.eop in
     serving_on _ c.self.inside.end _ s c.args.begun _
     (ap (λ (x : ControllerSide). x.table) c.write_back.ensures.step ∙ (ap (λ (x : ControllerSide). x.table) c.fetch-buf.ensures.step ∙ c.self.invariant.own))
-    (ap (λ (x : RxControlled). x.served) c.write_back.ensures.record ∙ ap (λ (x : RxControlled). x.served ++ s ∷ []) c.fetch-buf.ensures.same)
+    (ap (λ (x : RxControlled). x.completed) c.write_back.ensures.record ∙ ap (λ (x : RxControlled). x.completed ++ s ∷ []) c.fetch-buf.ensures.same)
     c.if-eop.false
     (subst (λ (x : ControllerSide). IsBegun piece_of (stored x) c.args.begun) (sym c.self.view_is) c.requires.begun)
     c.with-self-inside.ensures.segments

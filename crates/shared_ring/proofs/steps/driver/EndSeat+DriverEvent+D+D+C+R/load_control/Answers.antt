@@ -8,4 +8,4 @@ pub load-value-requires : goal.load-value-requires
 load-value-requires g c = let i = c.self.inside in control-asks g.R.Direction.form i.seat.table_id i.seat.me i.size i.completion c.self.invariant c.args.self.now c.self.view_is c.ring.inside.table.shared.table_id c.ring.inside.table.shared.key c.ring.invariant.of_key c.args.ring.now c.ring.view_is c.requires.own i.seat.id
 
 pub invariant_of-self : goal.invariant_of-self
-invariant_of-self g c = let i = c.self.inside in same-keeps g.R.Direction.form i.seat.table_id i.seat.me i.size i.completion c.self.invariant (driver.LoadedControl c.load-value.result) c.load-value.new.seat.table_id c.load-value.new.seat.me c.load-value.ensures.same.0 c.load-value.ensures.told.adds.seat (record { posted = refl; given = refl; reclaimed = refl })
+invariant_of-self g c = let i = c.self.inside in same-keeps g.R.Direction.form i.seat.table_id i.seat.me i.size i.completion c.self.invariant (driver.LoadedControl c.load-value.result) c.load-value.new.seat.table_id c.load-value.new.seat.me c.load-value.ensures.same.0 c.load-value.ensures.told.adds.seat (record { posted = refl; reaped = refl; reclaimed = refl })
