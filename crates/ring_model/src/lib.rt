@@ -20,7 +20,10 @@ mod steps;
 
 pub use frame_laws::{chains_are_lawful, frames_are_rejoined};
 pub use handshake::Handshake;
-pub use laws::{control_words_fit, counts_are_ordered, epochs_are_fixed, queues_stand_apart, rings_are_concluded, rings_are_lawful};
+pub use laws::{
+    control_words_fit, counts_are_ordered, epochs_are_fixed, queues_stand_apart,
+    rings_are_concluded, rings_are_lawful,
+};
 pub use notes::{FetchedSegment, Note, TakenSegment};
 pub use places::{place_after, places_between};
 pub use rows::worked_rows;

@@ -76,6 +76,12 @@ pub fn close(ring: RxRing, driver: RxDriverEnd, controller: RxControllerEnd) -> 
         at: completed,
         ..
     } = controller;
-    ring.0
-        .take_apart(seat, other, at.next, at.out, completed.serve, completed.holding)
+    ring.0.take_apart(
+        seat,
+        other,
+        at.next,
+        at.out,
+        completed.serve,
+        completed.holding,
+    )
 }

@@ -90,6 +90,12 @@ pub fn close(ring: TxRing, driver: TxDriverEnd, controller: TxControllerEnd) -> 
         at: completed,
         ..
     } = controller;
-    ring.0
-        .take_apart(seat, other, at.next, at.out, completed.serve, completed.holding)
+    ring.0.take_apart(
+        seat,
+        other,
+        at.next,
+        at.out,
+        completed.serve,
+        completed.holding,
+    )
 }
