@@ -67,6 +67,7 @@ IsReachableWorld pairs n w = IsReached can_move after_move (opening_world pairs 
 -- The effect of a move of queue `q`: `may` says whether it can happen, `later` are the queues after it, and `told` is
 -- its note. If queue `q` exists, it makes the step once. Otherwise nothing happens and there is no note.
 module _ {Ring Step : Type 0} (can : Ring → Step → Bool) (changed : Ring → Step → Ring) (tells : Ring → Step → Note) where
+  -- No worked row decides this; `queues_stand_apart` proves it of every move.
   pub record MakesStep (before : List Ring) (q : ℕ) (s : Step) (may : Bool) (later : List Ring) (told : Option Note) : Type 0 where
     pub possible : (r : Ring) → slice_get before q ≡ Some r → may ≡ can r s
     pub stepped : (r : Ring) → slice_get before q ≡ Some r → slice_get later q ≡ Some (next can changed r s)
@@ -80,11 +81,13 @@ IsStepOfQueue w (Receive q s) may later told = MakesStep rx_can rx_changed rx_no
 IsStepOfQueue w (Transmit q s) may later told = MakesStep tx_can tx_changed tx_note_of w.transmit q s may later.transmit told
 
 -- All other queues are unchanged.
+-- No worked row decides this; `queues_stand_apart` proves it of every move.
 abbrev pub IsLeftAlone : World → QueueMove → World → Type 0
 IsLeftAlone w (Receive q s) later = (later.transmit ≡ w.transmit) × ((k : ℕ) → k ≢ q → slice_get later.receive k ≡ slice_get w.receive k)
 IsLeftAlone w (Transmit q s) later = (later.receive ≡ w.receive) × ((k : ℕ) → k ≢ q → slice_get later.transmit k ≡ slice_get w.transmit k)
 
 -- Every queue of the world is a ring that a schedule of its own steps reaches, and therefore lawful.
+-- No worked row decides this; `queues_stand_apart` proves it of every reachable world.
 pub record IsLawfulWorld (n : ℕ) (w : World) : Type 0 where
   pub receive_reached : (q : ℕ) (r : RxRing ℕ) → slice_get w.receive q ≡ Some r → IsRxReachable ℕ n r
   pub transmit_reached : (q : ℕ) (r : TxRing ℕ) → slice_get w.transmit q ≡ Some r → IsTxReachable ℕ n r
@@ -92,6 +95,7 @@ pub record IsLawfulWorld (n : ℕ) (w : World) : Type 0 where
   pub transmit : (q : ℕ) (r : TxRing ℕ) → slice_get w.transmit q ≡ Some r → IsLawfulTx ℕ r
 
 -- The number of queues is unchanged, and each queue continues from its earlier state.
+-- No worked row decides this; `queues_stand_apart` proves it of every continued schedule.
 pub record WorldLater (w later : World) : Type 0 where
   pub receive_count : length later.receive ≡ length w.receive
   pub transmit_count : length later.transmit ≡ length w.transmit

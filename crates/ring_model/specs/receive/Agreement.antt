@@ -15,6 +15,7 @@ module _ {Payload Buffer : Type 0} (size : Payload → ℕ) (fresh : ℕ → Buf
   rx_word_of_item k posted (Some s) = rx_word (size s.payload) s.eop
 
   -- The item's buffer, with the payload once it is stored.
+  -- No worked row decides where the number comes from; in a lawful ring both are the same.
   abbrev pub rx_buffer_of_item : Option ℕ → Option (Segment Payload) → Option Buffer
   rx_buffer_of_item None completed = None
   rx_buffer_of_item (Some b) None = Some (fresh b)

@@ -11,6 +11,7 @@ module _ {Payload : Type 0} where
 
   -- Once the controller stores no more, no frame is unfinished. If the quiet word of this epoch is 1, the controller
   -- said so and stores no more.
+  -- No worked row decides this; `rings_are_concluded` proves it of every reachable ring.
   pub record IsRxConcluded (r : RxRing Payload) : Type 0 where
     pub queue : IsConcluded r.queue
     pub whole : rx_quiesced r ≡ true → is_whole r ≡ true

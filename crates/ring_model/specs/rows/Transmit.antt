@@ -1,5 +1,5 @@
 -- Worked rows of transmit rings: the notes of schedules, computed from the definitions alone.
-use Rattle.std.specs.Prelude.{◌≡◌, ℕ, zero, suc, ◌+◌, Bool, true, false, List, [], ◌∷◌, ◌++◌, length, Option, Some, None}
+use Rattle.std.specs.Prelude.{◌≡◌, ℕ, zero, suc, ◌+◌, Bool, true, false, List, [], ◌∷◌, ◌++◌, map, length, take, Option, Some, None}
 use Rattle.ring_model.specs.declared.states.Completion.TheVariants as by
 use Rattle.ring_model.specs.declared.steps.ControlStep.TheVariants.{AskEnable, LookAsked, Answer, LookAnswered, AskDisable}
 use Rattle.ring_model.specs.declared.steps.TxStep.{TxStep}
@@ -7,7 +7,10 @@ use Rattle.ring_model.specs.declared.steps.TxStep.TheVariants.{Post, Publish, Lo
 use Rattle.ring_model.specs.declared.notes.Note.{Note}
 use Rattle.ring_model.specs.declared.notes.Note.TheVariants as note
 use Rattle.ring_model.specs.rows.Told.{place, tail, head, buffer, control}
-use Rattle.ring_model.specs.transmit.Ring.{Posting, new_posting, TxRing, tx_opening}
+use Rattle.ring_model.specs.shared.Frames.{Bytes, itself, chains, frames, unfinished}
+use Rattle.ring_model.specs.shared.Agreement.{wanted_word}
+use Rattle.ring_model.specs.transmit.Agreement.{is_told, tx_word_of_item, tx_buffer_of_item}
+use Rattle.ring_model.specs.transmit.Ring.{Posting, new_posting, TxRing, tx_opening, carried, number_of_posting}
 use Rattle.ring_model.specs.transmit.Steps.{tx_after_all, tx_happened, tx_notes}
 
 abbrev pub by_status : TxRing ℕ
@@ -83,6 +86,14 @@ abbrev pub second_disabling : List (TxStep (Posting ℕ))
 second_disabling = Post (frame 5 false) ∷ Publish ∷ ClearHead ∷ Control AskDisable ∷ Publish ∷ Control LookAsked ∷ Look ∷ Fetch ∷ Control Answer ∷ Send ∷ Control Answer ∷ Look ∷ Control LookAnswered ∷ ClearHead ∷ Reclaim ∷ ClearHead ∷ ClearHead
     ∷ ClearTail ∷ ClearReport ∷ Control AskEnable ∷ []
 
+-- The words of items 0 to 2: a frame with no report, one whose report is made, and a posting with RS and no EOP.
+abbrev words_of : TxRing ℕ → List ℕ
+words_of r = map (wanted_word (tx_word_of_item (λ (n : ℕ). n) (λ (p : Posting ℕ). p.number) (is_told (tx_after_all r (take 9 two_frames)))) (tx_buffer_of_item (λ (n : ℕ). n) (λ (p : Posting ℕ). p.number)) (tx_after_all r (take 9 two_frames ++ Post (new_posting 3 62 false true 92) ∷ [])).queue) (0 ∷ 1 ∷ 2 ∷ [])
+
+-- A frame in two postings, one in a single posting, and an unfinished one.
+abbrev postings : List (Posting Bytes)
+postings = new_posting 7 (1 ∷ 2 ∷ []) false false 3 ∷ new_posting 8 (3 ∷ []) true true 3 ∷ new_posting 9 (4 ∷ []) true false 1 ∷ new_posting 5 (5 ∷ []) false false 2 ∷ new_posting 6 (6 ∷ []) false true 2 ∷ []
+
 pub record TxRows : Type 0 where
   pub one_frame_by_status : tx_notes by_status one_frame ≡ place 0 ∷ tail 1 ∷ unreported ∷ ready 1 ∷ sending 0 7 true ∷ head 1 ∷ unreported ∷ place 0 ∷ reported 0 ∷ buffer 7 ∷ []
   pub one_frame_by_head : tx_notes by_head_word one_frame ≡ place 0 ∷ tail 1 ∷ unreported ∷ ready 1 ∷ sending 0 7 true ∷ head 1 ∷ unreported ∷ head 1 ∷ reported 0 ∷ buffer 7 ∷ []
@@ -90,6 +101,12 @@ pub record TxRows : Type 0 where
       ≡ place 0 ∷ place 1 ∷ tail 2 ∷ ready 2 ∷ sending 0 1 false ∷ head 1 ∷ sending 1 2 true ∷ head 2 ∷ place 1 ∷ reported 1 ∷ buffer 1 ∷ buffer 2 ∷ None ∷ []
   pub two_frames_by_head : tx_notes by_head_word two_frames
       ≡ place 0 ∷ place 1 ∷ tail 2 ∷ ready 2 ∷ sending 0 1 false ∷ head 1 ∷ sending 1 2 true ∷ head 2 ∷ head 2 ∷ reported 1 ∷ buffer 1 ∷ buffer 2 ∷ None ∷ []
+  pub two_frames_cleaned : (tx_after_all by_status two_frames).ledger.reaped ≡ 1 ∷ 2 ∷ []
+  pub words : words_of by_status ++ words_of by_head_word ≡ 4222125241008188 ∷ 4294967296 ∷ 6473925172133950 ∷ 4222125241008188 ∷ 4222125375225916 ∷ 6473925172133950 ∷ []
+  pub slot : tx_buffer_of_item (λ (n : ℕ). n) (λ (p : Posting ℕ). p.number) (Some (frame 4 true)) None ≡ Some 4
+  pub in_chains : map (map number_of_posting) (chains carried postings) ≡ (7 ∷ 8 ∷ []) ∷ (9 ∷ []) ∷ []
+  pub in_frames : frames itself (map carried postings) ≡ (1 ∷ 2 ∷ 3 ∷ []) ∷ (4 ∷ []) ∷ []
+  pub rest : map number_of_posting (unfinished carried postings) ≡ 5 ∷ 6 ∷ []
   pub two_frames_count : tx_happened by_status two_frames ≡ 12
   pub two_frames_count_by_head : tx_happened by_head_word two_frames ≡ 12
   -- Reports are seen one after another, and only buffers covered by a seen report are cleaned. If no report is
@@ -113,9 +130,13 @@ pub record TxRows : Type 0 where
       ∷ LoadReport ∷ Clean ∷ Control LookAnswered ∷ LoadReport ∷ Clean ∷ [])
       ≡ place 0 ∷ tail 1 ∷ None ∷ None ∷ None ∷ None ∷ None ∷ None ∷ None ∷ control 1 ∷ None ∷ control 1 ∷ control 2 ∷ None ∷ ready 1 ∷ sending 0 1 true ∷ head 1 ∷ place 0
       ∷ None ∷ None ∷ control 2 ∷ reported 0 ∷ buffer 1 ∷ []
-  -- A head word wraps like the head.
+  -- The place of a report wraps, and a head word like the head.
+  pub wrapped_by_status : tx_notes (tx_after_all by_status (tx_turns 0 8)) (tx_turns 8 1) ≡ place 0 ∷ tail 1 ∷ ready 1 ∷ sending 0 8 true ∷ head 1 ∷ place 0 ∷ reported 0 ∷ buffer 8 ∷ []
   pub wrapped_report : tx_notes (tx_after_all by_head_word (tx_turns 0 7)) (tx_turns 7 2)
       ≡ place 7 ∷ tail 0 ∷ ready 1 ∷ sending 7 7 true ∷ head 0 ∷ head 0 ∷ reported 7 ∷ buffer 7 ∷ place 0 ∷ tail 1 ∷ ready 1 ∷ sending 0 8 true ∷ head 1 ∷ head 1 ∷ reported 0 ∷ buffer 8 ∷ []
+  -- After an answered disabling, buffers come back by reclaiming alone, also those whose report was seen.
+  pub reclaimed_only : tx_notes (tx_after_all by_status (Post (frame 1 true) ∷ Publish ∷ Look ∷ Fetch ∷ Send ∷ Report ∷ LoadReport ∷ Control AskDisable ∷ Control LookAsked ∷ Control Answer ∷ Control LookAnswered ∷ [])) (Clean ∷ Reclaim ∷ []) ≡ None ∷ buffer 1 ∷ []
+  pub cleared : map (λ (r : TxRing ℕ). r.published ∷ r.reported ∷ []) (tx_after_all by_status (disabling ++ ClearHead ∷ ClearTail ∷ []) ∷ []) ≡ (0 ∷ 0 ∷ []) ∷ []
   pub disabled_by_status : tx_notes by_status disabling
       ≡ place 0 ∷ place 1 ∷ place 2 ∷ tail 3 ∷ ready 3 ∷ sending 0 1 true ∷ head 1 ∷ control 3 ∷ None ∷ control 3 ∷ None ∷ place 0 ∷ control 0 ∷ None ∷ control 0 ∷ None ∷ buffer 1 ∷ None ∷ buffer 2 ∷ buffer 3 ∷ None ∷ []
   pub renewed_by_status : tx_notes (tx_after_all by_status disabling) renewal

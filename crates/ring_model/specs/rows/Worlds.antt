@@ -42,6 +42,7 @@ pub record WorldRows : Type 0 where
       ∷ nothing ∷ place 0 ∷ ready 0 ∷ ready 1 ∷ None ∷ sending 0 7 true ∷ taken 5 60 false ∷ taken 6 61 true ∷ head 1 ∷ place 0 ∷ place 0 ∷ reported 0 ∷ buffer 7 ∷ nothing ∷ None ∷ []
   -- Of the 32 moves, two have no queue and three cannot happen.
   pub mixed_count : moves_happened two_pairs mixed ≡ 27
+  pub sizes : map (λ (r : TxRing ℕ). r.size) two_pairs.transmit ≡ 8 ∷ 8 ∷ []
   pub posted : map (λ (r : RxRing ℕ). length r.ledger.posted) (after_moves two_pairs mixed).receive ≡ 1 ∷ 2 ∷ []
   pub taken_lengths : map (λ (r : RxRing ℕ). length r.ledger.reaped) (after_moves two_pairs mixed).receive ≡ 1 ∷ 1 ∷ []
   pub sent : map (λ (r : TxRing ℕ). length r.ledger.completed) (after_moves two_pairs mixed).transmit ≡ 0 ∷ 1 ∷ []

@@ -22,6 +22,7 @@ module _ {Posted Completed Reaped Buffer : Type 0} (word_of_item : ℕ → Optio
   wanted_slot q k = if q.held && (k == completed_count q) then None else buffer_of_item (slice_get q.ledger.posted k) (slice_get q.ledger.completed k)
 
   -- Each item that is out has its word and its buffer. The driver's own places may hold anything.
+  -- No worked row decides this; the proofs of `ring_machine` and `shared_ring` rely on it.
   pub record HasItems (n : ℕ) (q : Queue Posted Completed Reaped) (word : ℕ → ℕ) (slot : ℕ → Option Buffer) : Type 0 where
     pub words : EachItem n (returned_count q) (posted_count q) word (wanted_word q)
     pub slots : EachItem n (returned_count q) (posted_count q) slot (wanted_slot q)
@@ -49,6 +50,7 @@ pub record Wrapped (Buffer : Type 0) : Type 0 where
 module _ {Posted Completed Reaped Buffer : Type 0} (ends : Completed → Bool) (word_of_item : ℕ → Option Posted → Option Completed → ℕ) (buffer_of_item : Option Posted → Option Completed → Option Buffer) where
   -- Each item that is out has its word and its buffer, and the driver's slots are empty. Between a renewal and the
   -- answered enabling, the controller still has its places of the previous epoch.
+  -- No worked row decides this; the proofs of `ring_machine` rely on it.
   pub record Agrees (w : Wrapped Buffer) (q : Queue Posted Completed Reaped) : Type 0 where
     pub size_is : w.size ≡ q.size
     pub head : w.head ≡ q.head

@@ -63,6 +63,7 @@ module _ {X : Type 0} (carries : X → Piece) where
 
   -- A chain of a ring of `n` places: 1 to 15 segments, at most n - 1, of 1 to 2,048 bytes each. Only the last one ends
   -- the frame.
+  -- No worked row decides this; `chains_are_lawful` proves it of every chain that was stored or posted.
   pub record IsChain (n : ℕ) (chain : List X) : Type 0 where
     pub some_segments : 0 < length chain
     pub few_segments : length chain ≤ MOST_SEGMENTS
@@ -82,14 +83,17 @@ module _ {X : Type 0} (carries : X → Piece) where
     pub least : eop ≡ true → LEAST_FRAME ≤ length (join before) + length bytes
 
   -- Each item may follow the unfinished frame of the items before it, so every chain that ends is a lawful frame.
+  -- No worked row decides this, only `Follows`; the proofs of `chains_are_lawful` rely on it.
   abbrev pub AllFollow : ℕ → List X → Type 0
   AllFollow n xs = (k : ℕ) (x : X) → slice_get xs k ≡ Some x → Follows n (unfinished (take k xs)) (carries x).bytes (carries x).eop
 
 -- The length is within the limits of a frame.
+-- No worked row decides this; `chains_are_lawful` proves it of every frame that was stored or posted.
 abbrev pub HasFrameLength : Bytes → Type 0
 HasFrameLength f = (LEAST_FRAME ≤ length f) × (length f ≤ MOST_FRAME)
 
 -- Each piece but the last has `b` bytes and does not end the frame. The last has 1 to `b` bytes and ends it.
+-- No worked row decides this; `frames_are_rejoined` proves it of every frame that is cut.
 pub record IsCutBy (b : ℕ) (ps : List Piece) : Type 0 where
   pub full : (k : ℕ) (p : Piece) → slice_get ps k ≡ Some p → k + 1 < length ps → length p.bytes ≡ b
   pub goes_on : (k : ℕ) (p : Piece) → slice_get ps k ≡ Some p → k + 1 < length ps → p.eop ≡ false

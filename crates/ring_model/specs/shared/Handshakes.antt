@@ -119,6 +119,7 @@ shaken h LookAnswered = look_answered h
 shaken h AskDisable = ask_disable h
 
 -- Whether the step answers an enabling.
+-- No worked row decides whether the answer to a disabling counts; the laws' proofs rely on it.
 abbrev pub enables : Handshake → ControlStep → Bool
 enables h Answer = can_enable h
 enables h _ = false

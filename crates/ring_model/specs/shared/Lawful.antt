@@ -21,12 +21,14 @@ holder w k = if w.held && (k == w.serving) then Controller else Ring
 
 -- Every place has exactly one owner. The places of items that are out belong to Ring, a fetched one to Controller, and
 -- all others to Driver.
+-- No worked row decides this; `rings_are_lawful` proves it of every reachable ring.
 pub record IsLawfulMap (w : Window) (owners : List Owner) : Type 0 where
   pub places : length owners ≡ w.size
   pub out : (k : ℕ) → w.first ≤ k → k < w.past → slice_get owners (k % w.size) ≡ Some (holder w k)
   pub home : (place : ℕ) → place < w.size → ((k : ℕ) → w.first ≤ k → k < w.past → (k % w.size) ≢ place) → slice_get owners place ≡ Some Driver
 
 -- The ledgers of this epoch and of every ended one are lawful for the queue's size, and so is its owner map.
+-- No worked row decides this; `rings_are_lawful` proves it of every reachable ring.
 pub record IsLawfulQueue {Posted Completed Reaped : Type 0} (IsLawful : ℕ → Ledger Posted Completed Reaped → Type 0) (q : Queue Posted Completed Reaped) : Type 0 where
   pub ledger : IsLawful q.size q.ledger
   pub past : (k : ℕ) (l : Ledger Posted Completed Reaped) → slice_get q.past k ≡ Some l → IsLawful q.size l

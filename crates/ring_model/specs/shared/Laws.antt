@@ -10,7 +10,7 @@ use Rattle.ring_model.specs.shared.Handshakes.{is_answered, is_emptied, is_ended
 use Rattle.ring_model.specs.shared.Queue.{Ledger, Queue, posted_count, completed_count, reaped_count, returned_count, next_head}
 
 -- The control words, and the values that the controller last saw, that fit the two states. Other pairs of states do not
--- occur.
+-- occur. No worked row decides this; `control_words_fit` proves it of every reachable ring.
 abbrev pub ControlFits : DriverState → ControllerState → ℕ → ℕ → Type 0
 ControlFits New Off control seen = (control ≡ 0) × (seen ≡ 0)
 ControlFits New Ended control seen = (control ≡ 0) × (seen ≡ 0)
@@ -29,6 +29,7 @@ module _ {Posted Completed Reaped : Type 0} where
   -- Reaped items were completed, and completed items were posted. While the controller serves, it knows of all items that
   -- it completed or holds, and of no more than are published. Nothing is reclaimed before a disabling is seen answered.
   -- Nothing is completed before the enabling is answered. All items are back once the head is cleared.
+  -- No worked row decides this; `counts_are_ordered` proves it of every reachable ring.
   pub record IsOrdered (q : Queue Posted Completed Reaped) : Type 0 where
     pub reaped_completed : reaped_count q ≤ completed_count q
     pub completed_posted : completed_count q ≤ posted_count q
@@ -44,11 +45,13 @@ module _ {Posted Completed Reaped : Type 0} where
 
   -- If the driver saw its disabling answered, the controller has ended. Once the controller has answered, the head is
   -- the place after the last completed item until it is cleared.
+  -- No worked row decides this; `rings_are_concluded` proves it of every reachable ring.
   pub record IsConcluded (q : Queue Posted Completed Reaped) : Type 0 where
     pub ended : is_answered q.handshake.driver ≡ true → is_ended q.handshake.controller ≡ true
     pub head : is_ended q.handshake.controller ≡ true → (is_live q.handshake.driver || is_stopped q.handshake.driver) ≡ true → q.head ≡ next_head q
 
   -- Nothing in a ledger is ever changed or lost.
+  -- No worked row decides this; `epochs_are_fixed` proves it of every continued schedule.
   pub record IsGrown (before later : Ledger Posted Completed Reaped) : Type 0 where
     pub posted : IsBeginning before.posted later.posted
     pub completed : IsBeginning before.completed later.completed
@@ -56,6 +59,7 @@ module _ {Posted Completed Reaped : Type 0} where
 
   -- A later epoch: the first queue's epoch has ended and is among the past ones, with every list that was fixed
   -- unchanged. `quiesced` says that its controller completes no more.
+  -- No worked row decides this; `epochs_are_fixed` proves it of every continued schedule.
   pub record NewEpoch (q : Queue Posted Completed Reaped) (quiesced : Bool) (later : Queue Posted Completed Reaped) : Type 0 where
     pub ended : Ledger Posted Completed Reaped
     pub more : List (Ledger Posted Completed Reaped)
@@ -67,6 +71,7 @@ module _ {Posted Completed Reaped : Type 0} where
 
   -- The same epoch. Posted is fixed once the driver is no longer open, completed once the controller is quiesced, and
   -- reaped once the disabling was seen answered.
+  -- No worked row decides this; `epochs_are_fixed` proves it of every continued schedule.
   pub record SameEpoch (q : Queue Posted Completed Reaped) (quiesced : Bool) (later : Queue Posted Completed Reaped) (still_quiesced : Bool) : Type 0 where
     pub past : later.past ≡ q.past
     pub grown : IsGrown q.ledger later.ledger

@@ -72,6 +72,7 @@ module _ {Posted Completed Reaped : Type 0} where
   abbrev pub passed_to : Owner → Queue Posted Completed Reaped → ℕ → List Owner
   passed_to who q k = slice_set q.owners (k % q.size) who
 
+  -- No worked row decides `Give`, which both rings replace by a condition of their own; the laws' proofs rely on it.
   abbrev pub may : Queue Posted Completed Reaped → QueueStep Posted Completed Reaped → Bool
   may q (Post x) = is_open q.handshake.driver && nat_lt (posted_count q - reaped_count q) (q.size - 1)
   may q Publish = is_open q.handshake.driver

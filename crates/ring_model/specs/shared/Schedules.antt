@@ -22,6 +22,7 @@ module _ {State Step : Type 0} (can : State → Step → Bool) (changed : State 
   told_by tells r (s ∷ ss) = (if can r s then Some (tells r s) else None) ∷ told_by tells (next r s) ss
 
   -- Some schedule leads to the state from one of its possible beginnings.
+  -- No worked row decides this; the laws assume it, and their proofs rely on it.
   pub record IsReached {Beginning : Type 0} (opening : Beginning → State) (r : State) : Type 0 where
     pub beginning : Beginning
     pub schedule : List Step

@@ -16,5 +16,6 @@ pub record MayFollow (n : ℕ) (before : List (Posting Bytes)) (p : Posting Byte
   pub whole : p.eop ≡ true → length (join carried before) + length p.payload ≡ p.paylen
 
 -- Each posting may follow the unfinished frame of the postings before it.
+-- No worked row decides this, only `MayFollow`; the proofs of `chains_are_lawful` rely on it.
 abbrev pub AllMayFollow : ℕ → List (Posting Bytes) → Type 0
 AllMayFollow n ps = (k : ℕ) (p : Posting Bytes) → slice_get ps k ≡ Some p → MayFollow n (unfinished carried (take k ps)) p

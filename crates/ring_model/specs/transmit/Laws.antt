@@ -7,10 +7,12 @@ use Rattle.ring_model.specs.transmit.Ring.{TxRing, are_whole, number_of_posting}
 
 module _ {Payload : Type 0} where
   -- The controller sends no more in this epoch: it answered the disabling.
+  -- No worked row decides this, only `has_ended`; the laws' proofs rely on it.
   abbrev pub tx_quiesced : TxRing Payload → Bool
   tx_quiesced r = has_ended r.handshake
 
   -- Cleaned items were seen reported, items seen reported were reported, and reported items were sent.
+  -- No worked row decides this; `counts_are_ordered` proves it of every reachable ring.
   pub record IsTxOrdered (r : TxRing Payload) : Type 0 where
     pub queue : IsOrdered r.queue
     pub cleaned_seen : reaped_count r.queue ≤ r.seen_reported
@@ -19,6 +21,7 @@ module _ {Payload : Type 0} where
 
   -- The published postings end with a whole frame. Once the controller sends no more, no frame is unfinished and no
   -- report is owed. If all postings are cleaned, all were sent and their buffers came back, in order.
+  -- No worked row decides this; `rings_are_concluded` proves it of every reachable ring.
   pub record IsTxConcluded (r : TxRing Payload) : Type 0 where
     pub queue : IsConcluded r.queue
     pub published : are_whole (take r.published r.ledger.posted) ≡ true
