@@ -38,6 +38,7 @@ module _ {Payload : Type 0} where
   rx_can r ClearQuiet = may r.queue queue.Renew
 
   -- The ring after a step. After an answered enabling, the controller may store again.
+  -- No worked row decides `still` at `ClearQuiet`; the laws' proofs rely on it.
   abbrev pub rx_changed : RxRing Payload → RxStep Payload → RxRing Payload
   rx_changed r (Post b) = record r { queue = by r.queue (queue.Post b) }
   rx_changed r Publish = record r { queue = by r.queue queue.Publish }

@@ -11,7 +11,7 @@ use Rattle.ring_model.specs.shared.Frames.{Bytes, itself, chains, frames, unfini
 use Rattle.ring_model.specs.shared.Agreement.{wanted_word}
 use Rattle.ring_model.specs.transmit.Agreement.{is_told, tx_word_of_item, tx_buffer_of_item}
 use Rattle.ring_model.specs.transmit.Ring.{Posting, new_posting, TxRing, tx_opening, carried, number_of_posting}
-use Rattle.ring_model.specs.transmit.Steps.{tx_after_all, tx_happened, tx_notes}
+use Rattle.ring_model.specs.transmit.Steps.{asks_report, tx_after_all, tx_happened, tx_notes}
 
 abbrev pub by_status : TxRing ℕ
 by_status = tx_opening 8 (record { enabled = true; completion = by.Status })
@@ -119,6 +119,7 @@ pub record TxRows : Type 0 where
   -- fetch.
   pub in_turn : tx_notes by_status (LoadReport ∷ Post half ∷ Publish ∷ LoadReport ∷ Post (frame 4 true) ∷ Post (frame 5 true) ∷ Publish ∷ Look ∷ Fetch ∷ Send ∷ Clean ∷ Fetch ∷ Send ∷ Fetch ∷ Report ∷ Fetch ∷ [])
       ≡ None ∷ place 0 ∷ None ∷ None ∷ place 1 ∷ place 2 ∷ tail 3 ∷ ready 3 ∷ sending_half 0 ∷ head 1 ∷ None ∷ sending 1 4 true ∷ head 2 ∷ None ∷ place 1 ∷ sending 2 5 true ∷ []
+  pub nothing_asks : asks_report {Payload = ℕ} None ≡ false
   -- At most n - 1 buffers are out.
   pub seven_places : tx_notes by_status (tx_posts 0 8) ≡ place 0 ∷ place 1 ∷ place 2 ∷ place 3 ∷ place 4 ∷ place 5 ∷ place 6 ∷ None ∷ []
   pub seven_fit : tx_happened by_status (tx_posts 0 8) ≡ 7

@@ -87,6 +87,7 @@ module _ {Posted Completed Reaped : Type 0} where
   may q ClearTail = is_cleared q.handshake.driver
   may q Renew = is_tailed q.handshake.driver
 
+  -- No worked row decides whether `Renew` keeps `known`: it is set to 0 before anything is fetched again.
   abbrev pub by : Queue Posted Completed Reaped → QueueStep Posted Completed Reaped → Queue Posted Completed Reaped
   by q (Post x) = record q { ledger = record q.ledger { posted = q.ledger.posted ++ x ∷ [] }; owners = passed_to Ring q (posted_count q) }
   by q Publish = record q { published = posted_count q }

@@ -41,6 +41,7 @@ module _ {Payload : Type 0} where
   tx_settled r = is_settled ends_posting r.queue && not r.owed
 
   -- The posting is sent and the head stored. A report is owed if the posting asked for one.
+  -- No worked row decides whether a report that was owed stays so: nothing is sent while one is owed.
   abbrev pub sent_one : TxRing Payload → Option (Posting Payload) → TxRing Payload
   sent_one r None = r
   sent_one r (Some p) = record r { queue = by (by r.queue (queue.Complete p)) queue.Head; owed = p.rs }
@@ -64,6 +65,7 @@ module _ {Payload : Type 0} where
   tx_cleared r true = record r { queue = by r.queue queue.ClearTail }
 
   -- Only whole frames are published. An owed report comes before the next fetch.
+  -- No worked row decides `by_head` in `ClearReport`: a ring that reports by status words is never Tailed.
   abbrev pub tx_can : TxRing Payload → TxStep (Posting Payload) → Bool
   tx_can r (Post p) = may r.queue (queue.Post p)
   tx_can r Publish = may r.queue queue.Publish && are_whole r.ledger.posted
@@ -79,6 +81,7 @@ module _ {Payload : Type 0} where
   tx_can r ClearTail = may r.queue queue.ClearTail
   tx_can r ClearReport = by_head r.completion && may r.queue queue.Renew
 
+  -- No worked row decides `owed` at `Control`: no report is owed when an enabling is answered.
   abbrev pub tx_changed : TxRing Payload → TxStep (Posting Payload) → TxRing Payload
   tx_changed r (Post p) = record r { queue = by r.queue (queue.Post p) }
   tx_changed r Publish = record r { queue = by r.queue queue.Publish }
