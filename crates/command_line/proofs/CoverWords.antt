@@ -2,13 +2,13 @@
 use Rattle.std.proofs.Common.{◌≡◌, ◌∙◌, refl, ap, sym, subst, arith, Bool, true, false, List, [], ◌∷◌, codes, Some, None}
 use Rattle.std.specs.Prelude.{Option}
 use Rattle.clap.specs.Values.{bool_text}
-use Rattle.commands.specs.Replay.{is_page}
-use Rattle.commands.specs.declared.replay.Pictures.{Pictures}
-use Rattle.commands.specs.declared.replay.Pictures.TheVariants.{Never}
-use Rattle.commands.specs.declared.replay.Shown.{Shown}
+use Rattle.requests.specs.Replaying.{is_page}
+use Rattle.requests.specs.declared.replay.Pictures.{Pictures}
+use Rattle.requests.specs.declared.replay.Pictures.TheVariants.{Never}
+use Rattle.requests.specs.declared.replay.Shown.{Shown}
 use Rattle.clap.specs.Words.{App, Row, Text, subcommand_of, takes}
-use Rattle.schedule_command.specs.declared.covering.request.CoverRequest.{CoverRequest}
-use Rattle.schedule_command.specs.Lists.{shows_page}
+use Rattle.requests.specs.declared.covers.CoverRequest.{CoverRequest}
+use Rattle.requests.specs.Lists.{shows_page}
 use Rattle.command_line.specs.CommandLine.{IsProgram}
 use Rattle.command_line.specs.OptionWords.{is_head}
 use Rattle.command_line.specs.ScheduleWords.{HasCover, IsExpected, IsExpectedBy, IsUndrawn, SaysCover, expects_json, expects_registers, says_expect}

@@ -6,9 +6,9 @@ use Rattle.clap.specs.Simple.{new_shape}
 use Rattle.clap.specs.Walk.{Held, Step, Walk, after_step, finished, idle, nothing_held, value, walk, word_met}
 use Rattle.clap.specs.Takes.{default_passes, is_valid, settle_passes, step_passes, word_passes}
 use Rattle.clap.proofs.OnLiterals.{clap_on_literals}
-use Rattle.commands.specs.declared.decode.Form.{Form}
-use Rattle.commands.specs.declared.decode.Form.TheVariants.{RxRead, RxBack, TxRead, TxBack}
-use Rattle.commands.specs.Decoding.{ring_word, format_word}
+use Rattle.requests.specs.declared.decode.Form.{Form}
+use Rattle.requests.specs.declared.decode.Form.TheVariants.{RxRead, RxBack, TxRead, TxBack}
+use Rattle.requests.specs.Decoding.{ring_word, format_word}
 use Rattle.command_line.specs.CommandLine.{Choices, HasDecode, IsProgram, SaysDecode, program_app}
 use Rattle.command_line.proofs.CommandLine.{IsPlain, are_two, is_plain, plain_met, plain_passes, rows_in, two}
 

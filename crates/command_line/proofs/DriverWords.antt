@@ -6,8 +6,8 @@ use Rattle.clap.specs.Values.{bool_text}
 use Rattle.clap.specs.Words.{App, Row, Text, subcommand_of, takes}
 use Rattle.schedules.specs.Thresholds.{IsThresholds}
 use Rattle.schedules.specs.declared.thresholds.Thresholds.{Thresholds}
-use Rattle.schedule_command.specs.declared.request.ScheduleRequest.{ScheduleRequest}
-use Rattle.schedule_command.specs.Lists.{shows_page}
+use Rattle.requests.specs.declared.lists.ScheduleRequest.{ScheduleRequest}
+use Rattle.requests.specs.Lists.{shows_page}
 use Rattle.command_line.specs.CommandLine.{IsProgram}
 use Rattle.command_line.specs.OptionWords.{HasFlag, is_head}
 use Rattle.command_line.specs.ScheduleWords.{HasDriver, HasLists, SaysDriver, SaysLists, expects_json, expects_registers, says_expect, last_words}

@@ -6,13 +6,13 @@ use Rattle.std.proofs.lemmas.List.Elements.{All-cons, All-head, All-nil, All-tai
 use Rattle.clap.specs.Simple.{Shape, new_shape}
 use Rattle.clap.specs.Words.{App, Row, Text, built, subcommand_of, takes}
 use Rattle.clap.proofs.OnLiterals.{clap_on_literals}
-use Rattle.forwarder.specs.declared.config.Config.{Config}
-use Rattle.forward_command.specs.declared.printing.Printing.{Printing}
+use Rattle.forward_config.specs.declared.config.Config.{Config}
+use Rattle.requests.specs.declared.printing.Printing.{Printing}
 use Rattle.ring_model.specs.declared.states.Completion.{Completion}
 use Rattle.command_line.specs.CommandLine.{Choices, HasForward, HasPrinting, IsProgram, SaysForward, program_app}
 use Rattle.command_line.specs.OptionWords.{is_head}
 use Rattle.command_line.specs.FileWords.{FileOptions, HasFiles}
-use Rattle.forward_command.specs.Words.{IsSource, IsWireFile, PortFile, SourceFile, source_word, wire_file_word}
+use Rattle.requests.specs.Files.{IsSource, IsWireFile, PortFile, SourceFile, source_word, wire_file_word}
 use Rattle.command_line.proofs.CommandLine.{IsPlain, is_plain}
 use Rattle.command_line.proofs.Limits.{limit_given, limit_lawful, limit_value, limit_words_are}
 use Rattle.command_line.proofs.Options.{Given, words_of}

@@ -15,5 +15,4 @@ pub mod CoverWords
 pub mod RecommendedWords
 pub mod DriverWords
 pub mod CaptureWords
-pub mod Endings
 pub mod Sayings

@@ -3,7 +3,7 @@ use Rattle.std.proofs.Common.{◌≡◌, ◌∙◌, ap, ap₂, sym, refl, arith,
 use Rattle.std.specs.Prelude.{decimal}
 use Rattle.clap.specs.Words.{Text}
 use Rattle.capture.specs.declared.options.ReadOptions.{ReadOptions}
-use Rattle.forward_command.specs.Words.{SourceFile}
+use Rattle.requests.specs.Files.{SourceFile}
 use Rattle.command_line.specs.FileWords.{lacks_captures}
 use Rattle.command_line.specs.ReadingWords.{IsLimit, limit_words}
 use Rattle.command_line.proofs.CommandLine.{is_number}

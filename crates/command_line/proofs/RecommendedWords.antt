@@ -3,8 +3,8 @@ use Rattle.std.proofs.Common.{◌≡◌, ◌∙◌, ap, ap₂, refl, arith, true
 use Rattle.std.specs.Prelude.{not}
 use Rattle.std.specs.Fmt.{digits}
 use Rattle.clap.specs.Words.{App, Row, Text, subcommand_of, takes}
-use Rattle.schedule_command.specs.declared.request.ScheduleRequest.{ScheduleRequest}
-use Rattle.schedule_command.specs.Lists.{shows_page}
+use Rattle.requests.specs.declared.lists.ScheduleRequest.{ScheduleRequest}
+use Rattle.requests.specs.Lists.{shows_page}
 use Rattle.command_line.specs.CommandLine.{IsProgram}
 use Rattle.command_line.specs.OptionWords.{is_head}
 use Rattle.command_line.specs.ScheduleWords.{HasRecommended, SaysRecommended, expects_json, expects_registers, says_expect, last_words}

@@ -6,11 +6,11 @@ use Rattle.clap.specs.Simple.{Shape, new_shape}
 use Rattle.clap.specs.Words.{App, Row, Text, built, subcommand_of, takes}
 use Rattle.clap.proofs.OnLiterals.{clap_on_literals}
 use Rattle.ring_model.specs.declared.states.Completion.{Completion}
-use Rattle.commands.specs.declared.replay.Pictures.{Pictures}
-use Rattle.commands.specs.declared.replay.Pictures.TheVariants.{Never, Each, Last, States, Page}
-use Rattle.commands.specs.declared.replay.QueuePlan.{QueuePlan}
-use Rattle.commands.specs.Replay.{is_page}
-use Rattle.commands.specs.declared.replay.Shown.{Shown}
+use Rattle.requests.specs.declared.replay.Pictures.{Pictures}
+use Rattle.requests.specs.declared.replay.Pictures.TheVariants.{Never, Each, Last, States, Page}
+use Rattle.requests.specs.declared.replay.QueuePlan.{QueuePlan}
+use Rattle.requests.specs.Replaying.{is_page}
+use Rattle.requests.specs.declared.replay.Shown.{Shown}
 use Rattle.command_line.specs.CommandLine.{Choices, HasReplay, IsProgram, SaysReplay, program_app}
 use Rattle.command_line.specs.OptionWords.{is_head, picture_value, picture_words}
 use Rattle.command_line.specs.ShownWords.{says_json, says_registers}

@@ -1,31 +1,20 @@
--- What words say, whichever the command is: clap takes them and finds it, and the run that they lead to ends as it has to.
-use Rattle.std.proofs.Common.{◌≡◌, ◌∙◌, ap, inr, refl, subst, suc, zero, true, false, ℕ, Bool, List, Option, Some, None}
-use Rattle.std.specs.Prelude.{Result, Ok, Err}
-use Rattle.std.specs.Io.KnownBytes.{Keeps}
+-- What words say, whichever the command is: clap takes them and finds it.
+use Rattle.std.proofs.Common.{◌≡◌, ◌∙◌, ap, refl, subst, suc, zero, true, false, ℕ, Bool, List, Option, Some, None}
 use Rattle.clap.specs.Words.{App, Row, Text, subcommand_of, takes}
-use Rattle.forward_command.specs.Meanings.{capture_meant, lines_meant, meant}
-use Rattle.forward_command.specs.declared.piped.request.CaptureRequest.{CaptureRequest}
-use Rattle.forward_command.specs.declared.piped.request.CaptureRequest.TheVariants.{FromCapture, ToCapture}
-use Rattle.commands.specs.Answers.{Ends, EndsAs, EndsBy}
-use Rattle.commands.specs.Frame.{frame_in}
-use Rattle.commands.specs.declared.refusal.Refusal.{Refusal}
-use Rattle.commands.specs.declared.answering.TheConstants.{REFUSED}
-use Rattle.commands.specs.declared.decode.Form.{Form}
-use Rattle.commands.specs.declared.replay.QueuePlan.{QueuePlan}
-use Rattle.commands.specs.declared.request.Request.{Request}
+use Rattle.requests.specs.declared.conversion.CaptureRequest.{CaptureRequest}
+use Rattle.requests.specs.declared.conversion.CaptureRequest.TheVariants.{FromCapture, ToCapture}
+use Rattle.requests.specs.declared.decode.Form.{Form}
+use Rattle.requests.specs.declared.replay.QueuePlan.{QueuePlan}
 use Rattle.capture.specs.declared.options.ReadOptions.{ReadOptions}
-use Rattle.schedule_command.specs.Covers.{EndsCover}
-use Rattle.schedule_command.specs.declared.covering.request.CoverRequest.{CoverRequest}
-use Rattle.forward_command.specs.declared.printing.Printing.{Printing}
-use Rattle.forwarder.specs.declared.config.Config.{Config}
-use Rattle.schedule_command.specs.Lists.{EndsSchedules}
-use Rattle.schedule_command.specs.declared.request.ScheduleRequest.{ScheduleRequest}
+use Rattle.requests.specs.declared.covers.CoverRequest.{CoverRequest}
+use Rattle.requests.specs.declared.printing.Printing.{Printing}
+use Rattle.forward_config.specs.declared.config.Config.{Config}
+use Rattle.requests.specs.declared.lists.ScheduleRequest.{ScheduleRequest}
 use Rattle.command_line.specs.CommandLine.{IsMisuse, IsProgram, SaysForward}
-use Rattle.command_line.specs.FileWords.{FileOptions, intake_of}
-use Rattle.command_line.specs.Forwarding.{EndsForwarding}
-use Rattle.command_line.specs.Sayings.{EndsSaid, Holds, IsAsked, IsUnshown, Says, Saying, forward_shows, is_shown, name_of}
-use Rattle.forward_command.specs.Requests.{may_skip}
-use Rattle.forward_command.specs.Streams.{outlet, streamed_port}
+use Rattle.command_line.specs.FileWords.{FileOptions}
+use Rattle.command_line.specs.Sayings.{Holds, IsAsked, IsUnshown, Says, Saying, forward_shows, is_shown, name_of}
+use Rattle.requests.specs.Conversions.{may_skip}
+use Rattle.requests.specs.Files.{streamed_port}
 use Rattle.command_line.specs.Sayings.Saying.{once, decode, replay, forward, from_capture, to_capture, schedules, cover}
 use Rattle.command_line.specs.Sayings.IsUnshown.{is_misuse, asks}
 use Rattle.command_line.specs.declared.command.Asked.{Asked}
@@ -33,7 +22,6 @@ use Rattle.command_line.specs.declared.command.Asked.TheVariants as asked
 use Rattle.command_line.proofs.CaptureWords.{from_found, from_taken, to_found, to_taken}
 use Rattle.command_line.proofs.CoverWords.{cover_found, cover_taken}
 use Rattle.command_line.proofs.DecodeWords.{decode_found, decode_taken}
-use Rattle.command_line.proofs.Endings.{capture-ends, capture-kept, cover-kept, decode-ends, forward-ends, forward-kept, once-ends, replay-ends, replay-kept, schedules-ends, schedules-kept}
 use Rattle.command_line.proofs.ForwardWords.{forward_found, forward_taken}
 use Rattle.command_line.proofs.OnceWords.{once_found, once_taken}
 use Rattle.command_line.proofs.ReplayWords.{replay_found, replay_taken}
@@ -64,7 +52,7 @@ found app words (schedules request) program says = lists_found app words request
 found app words (cover request) program says = cover_found app words request program says
 
 -- one case for each command
-each : (P : Saying → Type 0) → ((digits : Text) → P (once digits)) → ((form : Form) (digits : Text) → P (decode form digits)) → ((plan : QueuePlan) → P (replay plan))
+pub each : (P : Saying → Type 0) → ((digits : Text) → P (once digits)) → ((form : Form) (digits : Text) → P (decode form digits)) → ((plan : QueuePlan) → P (replay plan))
     → ((config : Config) (printing : Printing) (files : FileOptions) → P (forward config printing files)) → ((port queue : ℕ) (reading : ReadOptions) → P (from_capture port queue reading))
     → ((port : ℕ) → P (to_capture port)) → ((request : ScheduleRequest) → P (schedules request)) → ((request : CoverRequest) → P (cover request))
     → (saying : Saying) → P saying
@@ -76,65 +64,6 @@ each P of-once of-decode of-replay of-forward of-from of-to of-schedules of-cove
 each P of-once of-decode of-replay of-forward of-from of-to of-schedules of-cover (to_capture port) = of-to port
 each P of-once of-decode of-replay of-forward of-from of-to of-schedules of-cover (schedules request) = of-schedules request
 each P of-once of-decode of-replay of-forward of-from of-to of-schedules of-cover (cover request) = of-cover request
-
--- ---- from a request to the end of its run
-
--- a refusal that prints nothing ends each
-once-kept : (frame : Result (List ℕ) Refusal) (old new : Option (List ℕ)) → Keeps old new → Ends frame REFUSED old new
-once-kept (Ok bytes) old new keeps = inr refl
-once-kept (Err e) old new keeps = (refl, keeps)
-
-pub kept : (saying : Saying) (is_terminal : Bool) (input old new : Option (List ℕ)) → Keeps old new → EndsSaid saying is_terminal input REFUSED old new
-kept (once digits) is_terminal input old new keeps = once-kept (frame_in digits) old new keeps
-kept (decode form digits) is_terminal input old new keeps = inr (refl, keeps)
-kept (replay plan) is_terminal input old new keeps = λ text known. replay-kept plan text old new keeps
-kept (forward config printing files) is_terminal input old new keeps = forward-kept config (outlet printing files.wires) (intake_of files is_terminal) input old new keeps
-kept (from_capture port queue reading) is_terminal input old new keeps = λ bytes known. capture-kept (lines_meant port queue reading bytes) old new keeps
-kept (to_capture port) is_terminal input old new keeps = λ text known. capture-kept (capture_meant port text) old new keeps
-kept (schedules request) is_terminal input old new keeps = schedules-kept request old new keeps
-kept (cover request) is_terminal input old new keeps = cover-kept request old new
-
--- what is asked for ends as it is said to
-pub request-ends : (saying : Saying) (request : Request) (is_terminal : Bool) (input : Option (List ℕ)) (status : ℕ) (old new : Option (List ℕ)) → IsAsked saying (asked.Request request)
-    → EndsAs request input status old new → EndsSaid saying is_terminal input status old new
-request-ends (once digits) request is_terminal input status old new is ends = once-ends request digits input status old new is ends
-request-ends (decode form digits) request is_terminal input status old new is ends = decode-ends request form digits input status old new is ends
-request-ends (replay plan) request is_terminal input status old new is ends = λ text known. replay-ends request plan text input status old new is known ends
-request-ends (forward config printing files) request is_terminal input status old new is ends = absurd is
-request-ends (from_capture port queue reading) request is_terminal input status old new is ends = absurd is
-request-ends (to_capture port) request is_terminal input status old new is ends = absurd is
-request-ends (schedules request′) request is_terminal input status old new is ends = absurd is
-request-ends (cover request′) request is_terminal input status old new is ends = absurd is
-
-pub forward-said : (words : List Text) (saying : Saying) (given : Config) (shown : Printing) (is_terminal : Bool) (input : Option (List ℕ)) (status : ℕ) (old new : Option (List ℕ))
-    → IsAsked saying (asked.Forward given shown) → Says words saying
-    → ((config : Config) (printing : Printing) (files : FileOptions) → SaysForward words config printing files → EndsForwarding given (outlet shown files.wires) (intake_of files is_terminal) input status old new)
-    → EndsSaid saying is_terminal input status old new
-forward-said words saying given shown is_terminal input status old new is says ends =
-    each (λ s. IsAsked s (asked.Forward given shown) → Says words s → EndsSaid s is_terminal input status old new) (λ d is says. absurd is) (λ f d is says. absurd is)
-    (λ p is says. absurd is)
-    (λ config printing files is says. forward-ends given config shown printing files.wires (intake_of files is_terminal) input status old new is (ends config printing files says))
-    (λ p q r is says. absurd is) (λ p is says. absurd is) (λ r is says. absurd is) (λ r is says. absurd is) saying is says
-
-pub capture-said : (saying : Saying) (given : CaptureRequest) (is_terminal : Bool) (input : Option (List ℕ)) (status : ℕ) (old new : Option (List ℕ)) → IsAsked saying (asked.Capture given)
-    → ((bytes : List ℕ) → input ≡ Some bytes → EndsBy (meant given bytes) status old new) → EndsSaid saying is_terminal input status old new
-capture-said saying given is_terminal input status old new is ends =
-    each (λ s. IsAsked s (asked.Capture given) → EndsSaid s is_terminal input status old new) (λ d is. absurd is) (λ f d is. absurd is) (λ p is. absurd is) (λ c p f is. absurd is)
-    (λ port queue reading is bytes known. capture-ends given (FromCapture port queue reading) bytes input status old new is known ends)
-    (λ port is text known. capture-ends given (ToCapture port) text input status old new is known ends) (λ r is. absurd is) (λ r is. absurd is) saying is
-
-pub schedules-said : (saying : Saying) (given : ScheduleRequest) (is_terminal : Bool) (input : Option (List ℕ)) (status : ℕ) (old new : Option (List ℕ)) → IsAsked saying (asked.Schedules given)
-    → EndsSchedules given status old new → EndsSaid saying is_terminal input status old new
-schedules-said saying given is_terminal input status old new is ends =
-    each (λ s. IsAsked s (asked.Schedules given) → EndsSaid s is_terminal input status old new) (λ d is. absurd is) (λ f d is. absurd is) (λ p is. absurd is) (λ c p f is. absurd is)
-    (λ p q r is. absurd is) (λ p is. absurd is) (λ request is. schedules-ends given request status old new is ends) (λ r is. absurd is) saying is
-
-pub cover-said : (saying : Saying) (given : CoverRequest) (is_terminal : Bool) (input : Option (List ℕ)) (status : ℕ) (old new : Option (List ℕ)) → IsAsked saying (asked.Cover given)
-    → EndsCover given status old new → EndsSaid saying is_terminal input status old new
-cover-said saying given is_terminal input status old new is ends =
-    each (λ s. IsAsked s (asked.Cover given) → EndsSaid s is_terminal input status old new) (λ d is. absurd is) (λ f d is. absurd is) (λ p is. absurd is) (λ c p f is. absurd is)
-    (λ p q r is. absurd is) (λ p is. absurd is) (λ r is. absurd is)
-    (λ request is. subst (λ (r : CoverRequest). EndsCover r status old new) is ends) saying is
 
 -- ---- what is not shown
 

@@ -5,8 +5,8 @@ use Rattle.std.specs.Fmt.{digits}
 use Rattle.clap.specs.Simple.{Shape, new_shape}
 use Rattle.clap.specs.Words.{App, Row, Text, built, subcommand_of, takes}
 use Rattle.clap.proofs.OnLiterals.{clap_on_literals}
-use Rattle.schedule_command.specs.declared.request.ScheduleRequest.{ScheduleRequest}
-use Rattle.schedule_command.specs.Lists.{shows_page}
+use Rattle.requests.specs.declared.lists.ScheduleRequest.{ScheduleRequest}
+use Rattle.requests.specs.Lists.{shows_page}
 use Rattle.command_line.specs.CommandLine.{Choices, IsProgram, program_app}
 use Rattle.command_line.specs.OptionWords.{is_head}
 use Rattle.command_line.specs.ScheduleWords.{HasSchedules, SaysSchedules, expects_json, expects_registers, says_expect, last_words}

@@ -5,21 +5,21 @@ use Rattle.clap.specs.Words.{App, Kinds, Row, Rule, Text, fault_of, first_of, ne
 use Rattle.clap.specs.declared.builder.value_parser.ValueParser.TheVariants.{Names}
 use Rattle.clap.specs.declared.error.kind.ErrorKind.{ErrorKind}
 use Rattle.clap.specs.declared.error.kind.ErrorKind.TheVariants.{DisplayHelp, DisplayVersion, OutOfMemory}
-use Rattle.commands.specs.declared.request.Request.{Request}
-use Rattle.commands.specs.declared.request.Request.TheVariants.{Once, Decode, Replay}
-use Rattle.commands.specs.declared.decode.Form.{Form}
-use Rattle.commands.specs.declared.replay.QueuePlan.{QueuePlan}
-use Rattle.commands.specs.Decoding.{ring_word, format_word}
-use Rattle.forwarder.specs.declared.config.Config.{Config}
-use Rattle.forward_command.specs.declared.printing.Printing.{Printing}
-use Rattle.forward_command.specs.Requests.{IsPlaced}
-use Rattle.forward_command.specs.declared.piped.request.CaptureRequest.{CaptureRequest}
+use Rattle.requests.specs.declared.request.Request.{Request}
+use Rattle.requests.specs.declared.request.Request.TheVariants.{Once, Decode, Replay}
+use Rattle.requests.specs.declared.decode.Form.{Form}
+use Rattle.requests.specs.declared.replay.QueuePlan.{QueuePlan}
+use Rattle.requests.specs.Decoding.{ring_word, format_word}
+use Rattle.forward_config.specs.declared.config.Config.{Config}
+use Rattle.requests.specs.declared.printing.Printing.{Printing}
+use Rattle.requests.specs.Conversions.{IsPlaced}
+use Rattle.requests.specs.declared.conversion.CaptureRequest.{CaptureRequest}
 use Rattle.command_line.specs.OptionWords.{HasFlag, HasNumber, SaysNumber, draws_any, explain_rule, explain_words, flag_rule, flag_words, is_head, number_rule, optional_rule, picture_value, picture_words, queue_rules, with_rules}
 use Rattle.command_line.specs.ScheduleWords.{schedules_app}
 use Rattle.command_line.specs.ShownWords.{HasShown, IsSayable, says_json, says_registers}
-use Rattle.commands.specs.Replay.{is_page}
-use Rattle.schedule_command.specs.declared.request.ScheduleRequest.{ScheduleRequest}
-use Rattle.schedule_command.specs.declared.covering.request.CoverRequest.{CoverRequest}
+use Rattle.requests.specs.Replaying.{is_page}
+use Rattle.requests.specs.declared.lists.ScheduleRequest.{ScheduleRequest}
+use Rattle.requests.specs.declared.covers.CoverRequest.{CoverRequest}
 use Rattle.command_line.specs.FileWords.{AreFiles, FileOptions, file_rule, words_of_files}
 use Rattle.command_line.specs.ReadingWords.{limit_rule, skip_rule}
 use Rattle.command_line.specs.CaptureWords.{from_capture_app, to_capture_app}

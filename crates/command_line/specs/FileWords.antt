@@ -4,8 +4,7 @@ use Rattle.std.specs.Borrow.{Bor}
 use Rattle.std.specs.List.{AllZip, flat_map}
 use Rattle.clap.specs.Words.{Row, Rule, Text, all_of, new_rule}
 use Rattle.clap.specs.declared.builder.action.ArgAction.TheVariants.{Append}
-use Rattle.forward_command.specs.Intakes.{FrameIntake}
-use Rattle.forward_command.specs.Words.{IsSource, IsWireFile, PortFile, SourceFile, source_word, wire_file_word}
+use Rattle.requests.specs.Files.{IsSource, IsWireFile, PortFile, SourceFile, source_word, wire_file_word}
 use Rattle.capture.specs.declared.options.ReadOptions.{ReadOptions}
 use Rattle.command_line.specs.OptionWords.{flag_words}
 use Rattle.command_line.specs.ReadingWords.{HasReading, IsLimit, limit_words}
@@ -58,10 +57,6 @@ pub record HasFiles (rows : List Row) (files : FileOptions) : Type 0 where
   pub sources : all_of (codes "capture") rows ≡ file_values (map source_word files.sources)
   pub reading : HasReading rows files.reading
   pub wires : all_of (codes "wire-capture") rows ≡ file_values (map wire_file_word files.wires)
-
--- the frames that come in, with this input
-abbrev pub intake_of : FileOptions → Bool → FrameIntake
-intake_of files is_terminal = record { sources = files.sources; reading = files.reading; is_terminal = is_terminal }
 
 -- these are the files
 abbrev pub HoldsFiles : ForwardFiles → FileOptions → Type 0

@@ -4,7 +4,6 @@ pub mod ShownWords
 pub mod ScheduleWords
 pub mod ReadingWords
 pub mod FileWords
-pub mod Forwarding
 pub mod CommandLine
 pub mod Sayings
 pub mod Building

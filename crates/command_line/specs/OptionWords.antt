@@ -6,8 +6,8 @@ use Rattle.clap.specs.declared.builder.action.ArgAction.TheVariants.{SetTrue}
 use Rattle.clap.specs.declared.builder.value_parser.ValueParser.TheVariants.{Signed}
 use Rattle.ring_model.specs.declared.states.Completion.{Completion}
 use Rattle.ring_model.specs.declared.states.Completion.TheVariants.{Head, Status}
-use Rattle.commands.specs.declared.replay.Pictures.{Pictures}
-use Rattle.commands.specs.declared.replay.Pictures.TheVariants.{Never, Each, Last, States, Page}
+use Rattle.requests.specs.declared.replay.Pictures.{Pictures}
+use Rattle.requests.specs.declared.replay.Pictures.TheVariants.{Never, Each, Last, States, Page}
 
 -- a command of this name with these arguments
 abbrev pub with_rules : Text → List Rule → App

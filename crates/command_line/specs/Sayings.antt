@@ -1,27 +1,19 @@
--- The meaning of a command line with any command: its words, the values that clap reads, the request, and how its run
--- ends.
+-- The meaning of a command line with any command: its words, the values that clap reads, and the request.
 use Rattle.std.specs.Prelude.{◌≡◌, ℕ, zero, suc, Bool, true, false, List, Option, Some, None, codes}
 use Rattle.clap.specs.Words.{Row, Text}
-use Rattle.forward_command.specs.Meanings.{capture_meant, lines_meant}
-use Rattle.forward_command.specs.declared.piped.request.CaptureRequest.TheVariants.{FromCapture, ToCapture}
-use Rattle.commands.specs.Answers.{Ends, EndsBy, EndsDecode}
-use Rattle.commands.specs.Frame.{frame_in}
-use Rattle.commands.specs.Replay.{EndsReplay}
-use Rattle.commands.specs.declared.decode.Form.{Form}
-use Rattle.commands.specs.declared.replay.QueuePlan.{QueuePlan}
+use Rattle.requests.specs.declared.conversion.CaptureRequest.TheVariants.{FromCapture, ToCapture}
+use Rattle.requests.specs.declared.decode.Form.{Form}
+use Rattle.requests.specs.declared.replay.QueuePlan.{QueuePlan}
 use Rattle.capture.specs.declared.options.ReadOptions.{ReadOptions}
-use Rattle.schedule_command.specs.Covers.{EndsCover}
-use Rattle.schedule_command.specs.declared.covering.request.CoverRequest.{CoverRequest}
-use Rattle.forward_command.specs.declared.printing.Printing.{Printing}
-use Rattle.forward_command.specs.Streams.{outlet, streamed_port}
-use Rattle.forwarder.specs.declared.config.Config.{Config}
-use Rattle.schedule_command.specs.Lists.{EndsSchedules}
-use Rattle.schedule_command.specs.declared.request.ScheduleRequest.{ScheduleRequest}
+use Rattle.requests.specs.declared.covers.CoverRequest.{CoverRequest}
+use Rattle.requests.specs.declared.printing.Printing.{Printing}
+use Rattle.requests.specs.Files.{streamed_port}
+use Rattle.forward_config.specs.declared.config.Config.{Config}
+use Rattle.requests.specs.declared.lists.ScheduleRequest.{ScheduleRequest}
 use Rattle.command_line.specs.CaptureWords.{HasFromCapture, HasToCapture, SaysFromCapture, SaysToCapture}
 use Rattle.command_line.specs.CommandLine.{HasDecode, HasForward, HasOnce, HasPrinting, HasReplay, IsCapture, IsCover, IsDecode, IsForward, IsMisuse, IsOnce, IsReplayOf, IsRequest, IsSchedules}
 use Rattle.command_line.specs.CommandLine.{SaysDecode, SaysForward, SaysOnce, SaysReplay}
-use Rattle.command_line.specs.FileWords.{FileOptions, intake_of}
-use Rattle.command_line.specs.Forwarding.{EndsForwarding}
+use Rattle.command_line.specs.FileWords.{FileOptions}
 use Rattle.command_line.specs.ScheduleWords.{HasCover, HasLists, SaysCover, SaysLists}
 use Rattle.command_line.specs.declared.command.Asked.{Asked}
 
@@ -78,18 +70,6 @@ IsAsked (from_capture port queue reading) a = IsCapture a (FromCapture port queu
 IsAsked (to_capture port) a = IsCapture a (ToCapture port)
 IsAsked (schedules request) a = IsSchedules a request
 IsAsked (cover request) a = IsCover a request
-
--- how a run of it ends, with an input that may be a terminal and whose bytes may be unknown, and with the old and the new
--- output
-abbrev pub EndsSaid : Saying → Bool → Option (List ℕ) → ℕ → Option (List ℕ) → Option (List ℕ) → Type 0
-EndsSaid (once digits) is_terminal input status old new = Ends (frame_in digits) status old new
-EndsSaid (decode form digits) is_terminal input status old new = EndsDecode form digits status old new
-EndsSaid (replay plan) is_terminal input status old new = (text : List ℕ) → input ≡ Some text → EndsReplay plan text status old new
-EndsSaid (forward config printing files) is_terminal input status old new = EndsForwarding config (outlet printing files.wires) (intake_of files is_terminal) input status old new
-EndsSaid (from_capture port queue reading) is_terminal input status old new = (bytes : List ℕ) → input ≡ Some bytes → EndsBy (lines_meant port queue reading bytes) status old new
-EndsSaid (to_capture port) is_terminal input status old new = (text : List ℕ) → input ≡ Some text → EndsBy (capture_meant port text) status old new
-EndsSaid (schedules request) is_terminal input status old new = EndsSchedules request status old new
-EndsSaid (cover request) is_terminal input status old new = EndsCover request status old new
 
 -- besides refusals, a forwarding writes its progress to standard error, its counts if a capture goes to standard output,
 -- the records that were left out of captures, and the flows that `--turns` cut

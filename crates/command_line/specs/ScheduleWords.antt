@@ -4,17 +4,17 @@ use Rattle.std.specs.Str.{bytes_eq}
 use Rattle.clap.specs.Words.{App, Row, Rule, Text, first_of}
 use Rattle.clap.specs.declared.parser.matches.ValueSource.{ValueSource}
 use Rattle.clap.specs.declared.parser.matches.ValueSource.TheVariants.{CommandLine, DefaultValue}
-use Rattle.commands.specs.declared.replay.Pictures.TheVariants.{Never, Each, Last, States, Page}
-use Rattle.commands.specs.declared.replay.Pictures.{Pictures}
-use Rattle.commands.specs.declared.replay.TheConstants.{PAGE}
-use Rattle.commands.specs.declared.replay.Shown.{Shown}
-use Rattle.schedule_command.specs.declared.covering.request.CoverRequest.{CoverRequest}
+use Rattle.requests.specs.declared.replay.Pictures.TheVariants.{Never, Each, Last, States, Page}
+use Rattle.requests.specs.declared.replay.Pictures.{Pictures}
+use Rattle.requests.specs.declared.replay.TheConstants.{PAGE}
+use Rattle.requests.specs.declared.replay.Shown.{Shown}
+use Rattle.requests.specs.declared.covers.CoverRequest.{CoverRequest}
 use Rattle.schedules.specs.declared.plan.SchedulePlan.{SchedulePlan}
 use Rattle.ring_model.specs.declared.states.Completion.TheVariants.{Status}
 use Rattle.schedules.specs.Thresholds.{Fit, IsThresholds}
 use Rattle.schedules.specs.declared.thresholds.Thresholds.{Thresholds}
-use Rattle.schedule_command.specs.Lists.{shows_page}
-use Rattle.schedule_command.specs.declared.request.ScheduleRequest.{ScheduleRequest}
+use Rattle.requests.specs.Lists.{shows_page}
+use Rattle.requests.specs.declared.lists.ScheduleRequest.{ScheduleRequest}
 use Rattle.command_line.specs.OptionWords.{HasFlag, HasNumber, SaysNumber, SaysNumberBelow, bounded_rule, explain_rule, explain_words, flag_rule, flag_words, is_head, number_rule, queue_rules, with_rules, word_rule}
 use Rattle.command_line.specs.ShownWords.{says_json, says_registers}
 

@@ -1,11 +1,11 @@
 -- The words for the form of the output of `replay`: notes as words or objects, registers, pictures, or a page.
 use Rattle.std.specs.Prelude.{◌≡◌, Bool, true, false, not, ◌&&◌, ◌||◌, List, Option, Some, None, codes, if◌then◌else◌}
 use Rattle.clap.specs.Words.{Row, first_of}
-use Rattle.commands.specs.Replay.{is_page}
-use Rattle.commands.specs.declared.replay.Pictures.{Pictures}
-use Rattle.commands.specs.declared.replay.Pictures.TheVariants.{Never, Each, Last, States, Page}
-use Rattle.commands.specs.declared.replay.Shown.{Shown}
-use Rattle.commands.specs.declared.replay.TheConstants.{PAGE}
+use Rattle.requests.specs.Replaying.{is_page}
+use Rattle.requests.specs.declared.replay.Pictures.{Pictures}
+use Rattle.requests.specs.declared.replay.Pictures.TheVariants.{Never, Each, Last, States, Page}
+use Rattle.requests.specs.declared.replay.Shown.{Shown}
+use Rattle.requests.specs.declared.replay.TheConstants.{PAGE}
 use Rattle.command_line.specs.OptionWords.{HasFlag, draws_any, picture_value}
 
 -- A page has objects and registers in any case, so no words say so.

@@ -2,13 +2,13 @@
 ghost use Rattle.std.specs.Prelude.{◌≡◌, ℕ, Some, IfSome};
 ghost use Rattle.clap.specs.Words.{found_of, rows_of};
 ghost use Rattle.capture.specs.declared.options.ReadOptions.{ReadOptions};
-ghost use Rattle.forward_command.specs.Requests.{IsPlaced};
-ghost use Rattle.forward_command.specs.declared.piped.request.CaptureRequest.TheVariants.{FromCapture, ToCapture};
+ghost use Rattle.requests.specs.Conversions.{IsPlaced};
+ghost use Rattle.requests.specs.declared.conversion.CaptureRequest.TheVariants.{FromCapture, ToCapture};
 ghost use Rattle.command_line.specs.CaptureWords.{HasFromCapture, HasToCapture};
 
 use crate::reading::{place_in, reading_in};
 use clap::ArgMatches;
-use forward_command::piped::CaptureRequest;
+use requests::CaptureRequest;
 
 /// Reads the request from matches of `from-capture`.
 pub(crate) fn from_capture_in<'a>(matches: &ArgMatches<'a>) -> Option<CaptureRequest>

@@ -3,13 +3,13 @@ ghost use Rattle.std.specs.Prelude.{◌≡◌, ◌⊎◌, List, Some, codes, map
 ghost use Rattle.std.specs.String.{string_bytes};
 ghost use Rattle.clap.specs.Words.{Row, Text, kind_of, found_of, rows_of, subcommand_rows_of};
 ghost use Rattle.clap.specs.declared.error.kind.ErrorKind.TheVariants.{OutOfMemory};
-ghost use Rattle.commands.specs.declared.decode.Form.{Form};
+ghost use Rattle.requests.specs.declared.decode.Form.{Form};
 ghost use Rattle.command_line.specs.CommandLine.{CanBeDone, HasDecode, HasForward, HasOnce, HasPrinting, HasReplay, IsDecode, IsMistake, IsMisuse, IsOnce, IsReplayOf};
-ghost use Rattle.commands.specs.declared.replay.QueuePlan.{QueuePlan};
+ghost use Rattle.requests.specs.declared.replay.QueuePlan.{QueuePlan};
 ghost use Rattle.command_line.specs.OptionWords.{HasFlag, is_head};
 ghost use Rattle.ring_model.specs.declared.states.Completion.{Completion as Reports};
-ghost use Rattle.forwarder.specs.declared.config.Config.{Config as ForwardConfig};
-ghost use Rattle.forward_command.specs.declared.printing.Printing.{Printing as Printed};
+ghost use Rattle.forward_config.specs.declared.config.Config.{Config as ForwardConfig};
+ghost use Rattle.requests.specs.declared.printing.Printing.{Printing as Printed};
 ghost use Rattle.command_line.specs.Sayings.{Holds, IsAsked, Says, Saying, name_of};
 
 use crate::captures::{from_capture_in, to_capture_in};
@@ -21,13 +21,9 @@ use crate::reading::{flag_in, number_in, word_in};
 use crate::showing::shown_in;
 use clap::error::ErrorKind;
 use clap::{ArgMatches, Error};
-use commands::{Form, QueuePlan, Request};
-use forward_command::Printing;
-use forward_command::piped::CaptureRequest;
-use forwarder::Config;
-use ring_machine::Completion;
-use schedule_command::ScheduleRequest;
-use schedule_command::covering::CoverRequest;
+use forward_config::Config;
+use requests::{CaptureRequest, CoverRequest, Form, Printing, QueuePlan, Request, ScheduleRequest};
+use ring_model::Completion;
 use std::alloc::Global;
 
 /// The error for missing options that `clap` does not require.

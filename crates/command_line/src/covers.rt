@@ -1,7 +1,7 @@
 //! Reads the request of `schedules --cover` from matches.
 ghost use Rattle.std.specs.Prelude.{◌≡◌, Some};
 ghost use Rattle.clap.specs.Words.{found_of, rows_of};
-ghost use Rattle.schedule_command.specs.declared.covering.request.CoverRequest.{CoverRequest as Covering};
+ghost use Rattle.requests.specs.declared.covers.CoverRequest.{CoverRequest as Covering};
 ghost use Rattle.command_line.specs.ScheduleWords.{HasCover, by_words, draws, is_said};
 
 use crate::command::completion_in;
@@ -9,7 +9,7 @@ use crate::expects::expect_in;
 use crate::reading::flag_in;
 use clap::ArgMatches;
 use clap::parser::ValueSource;
-use schedule_command::covering::CoverRequest;
+use requests::CoverRequest;
 
 /// Reads the request from matches of `schedules` with `--cover`. Returns `None` if an option of drawn lists is given,
 /// `--page`,

@@ -1,11 +1,11 @@
 //! Reads the option `--picture` of `replay` from matches.
 ghost use Rattle.std.specs.Prelude.{◌≡◌, Some, codes};
 ghost use Rattle.clap.specs.Words.{first_of, found_of, rows_of};
-ghost use Rattle.commands.specs.declared.replay.Pictures.{Pictures as Drawn};
+ghost use Rattle.requests.specs.declared.replay.Pictures.{Pictures as Drawn};
 ghost use Rattle.command_line.specs.OptionWords.{draws_any, picture_value, said_pictures};
 
 use clap::ArgMatches;
-use commands::Pictures;
+use requests::Pictures;
 
 /// Reads after which moves queues are drawn from matches of `replay`. Returns `None` if the value is not valid.
 pub(crate) fn pictures_in<'a>(replay: &ArgMatches<'a>) -> Option<Pictures>

@@ -4,7 +4,7 @@ ghost use Rattle.clap.specs.Words.{Text, first_of, found_of, rows_of};
 ghost use Rattle.clap.specs.declared.error.kind.ErrorKind.TheVariants.{ArgumentConflict, ValueValidation};
 ghost use Rattle.schedules.specs.Thresholds.{Fit, IsThresholds};
 ghost use Rattle.schedules.specs.declared.thresholds.Thresholds.{Thresholds as Driver};
-ghost use Rattle.schedule_command.specs.declared.request.ScheduleRequest.{ScheduleRequest as Lists};
+ghost use Rattle.requests.specs.declared.lists.ScheduleRequest.{ScheduleRequest as Lists};
 ghost use Rattle.command_line.specs.ScheduleWords.{Excludes, FitNone, FollowsDriver, HasDriver, HasText, strays};
 
 use crate::covers::is_said;
@@ -13,7 +13,7 @@ use crate::lists::plan_in;
 use crate::reading::{flag_in, number_in, text_in, word_in};
 use clap::ArgMatches;
 use clap::error::ErrorKind;
-use schedule_command::ScheduleRequest;
+use requests::ScheduleRequest;
 use schedules::Thresholds;
 
 /// The error for `--driver` together with an option that a driver cannot follow.

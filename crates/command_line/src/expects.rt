@@ -1,12 +1,12 @@
 //! Reads what `schedules` prints beside the lists from matches.
 ghost use Rattle.std.specs.Prelude.{◌≡◌, Option, Some};
 ghost use Rattle.clap.specs.Words.{found_of, rows_of};
-ghost use Rattle.commands.specs.declared.replay.Shown.{Shown as Form};
+ghost use Rattle.requests.specs.declared.replay.Shown.{Shown as Form};
 ghost use Rattle.command_line.specs.ScheduleWords.{HasExpect, expect_of};
 
 use crate::reading::flag_in;
 use clap::ArgMatches;
-use commands::{PAGE, Pictures, Shown};
+use requests::{PAGE, Pictures, Shown};
 
 /// Reads the form in which the output of `replay` follows each list: `Some(None)` without `--expect`, and a page with
 /// `--page`. Returns `None` if a form is given without `--expect`, or if both stand together.

@@ -3,7 +3,7 @@
 //! words are which request; mistaken words are never taken for one.
 //!
 //! [`asked_of`] parses the words after the program's name into a request of `commands`, a configuration of
-//! `forward_command`, a request of its captures, or a request of `schedule_command`. [`files_of`]
+//! `forward_io`, a request of its captures, or a request of `schedule_command`. [`files_of`]
 //! parses the files of a forwarding. [`run`] serves the request, or prints the help or the error of `clap`, and returns
 //! the exit status.
 #![tactic(auto)]
@@ -21,9 +21,7 @@ mod lists;
 mod mistakes;
 mod program;
 mod reading;
-mod running;
 mod showing;
 
 pub use command::{Asked, asked_of};
 pub use files::{ForwardFiles, files_of};
-pub use running::{MISUSED, run};

@@ -2,8 +2,8 @@
 ghost use Rattle.std.specs.Prelude.{◌≡◌, Some, IfSome, IsSomeAnd};
 ghost use Rattle.clap.specs.Words.{found_of, rows_of};
 ghost use Rattle.schedules.specs.declared.plan.SchedulePlan.{SchedulePlan as Plan};
-ghost use Rattle.schedule_command.specs.declared.request.ScheduleRequest.{ScheduleRequest as Lists};
-ghost use Rattle.schedule_command.specs.declared.covering.request.CoverRequest.{CoverRequest as Covering};
+ghost use Rattle.requests.specs.declared.lists.ScheduleRequest.{ScheduleRequest as Lists};
+ghost use Rattle.requests.specs.declared.covers.CoverRequest.{CoverRequest as Covering};
 ghost use Rattle.command_line.specs.CommandLine.{CanBeDone, IsCover, IsSchedules};
 ghost use Rattle.command_line.specs.ScheduleWords.{HasCover, HasLists, HasQueues, HasRecommended, HasSchedules, counts};
 
@@ -13,7 +13,7 @@ use crate::drivers::driven_in;
 use crate::expects::expect_in;
 use crate::reading::{flag_in, number_in};
 use clap::ArgMatches;
-use schedule_command::ScheduleRequest;
+use requests::ScheduleRequest;
 use schedules::{SchedulePlan, Thresholds};
 
 /// The recommended lists: seed, number of lists, moves per list, and maximum percentage of moves that do not happen.

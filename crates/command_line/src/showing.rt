@@ -1,13 +1,13 @@
 //! Reads the form of the output of `replay` from matches.
 ghost use Rattle.std.specs.Prelude.{◌≡◌, Some};
 ghost use Rattle.clap.specs.Words.{found_of, rows_of};
-ghost use Rattle.commands.specs.declared.replay.Shown.{Shown as Form};
+ghost use Rattle.requests.specs.declared.replay.Shown.{Shown as Form};
 ghost use Rattle.command_line.specs.ShownWords.{HasShown, form_of};
 
 use crate::drawings::{draws_any, pictures_in};
 use crate::reading::flag_in;
 use clap::ArgMatches;
-use commands::{PAGE, Pictures, Shown};
+use requests::{PAGE, Pictures, Shown};
 
 /// Reads the form from matches of `replay`. Returns `None` if `--picture` is not valid or is given with `--json`, or if
 /// `--page` is given with one of `--json`, `--registers` and `--picture`.

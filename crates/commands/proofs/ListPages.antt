@@ -9,9 +9,9 @@ use Rattle.ring_machine.specs.Queues.{AreQueues}
 use Rattle.ring_machine.specs.text.Moves.{IsInRange, text_of}
 use Rattle.text_lines.specs.Parts.{later_parts, lines_of, says_something}
 use Rattle.refusals.specs.declared.errors.MachineError.TheVariants.{Memory as MachineMemory}
-use Rattle.commands.specs.declared.refusal.Refusal.{Refusal}
-use Rattle.commands.specs.declared.refusal.Refusal.TheVariants as refusal
-use Rattle.commands.specs.declared.replay.QueuePlan.{QueuePlan}
+use Rattle.requests.specs.declared.refusal.Refusal.{Refusal}
+use Rattle.requests.specs.declared.refusal.Refusal.TheVariants as refusal
+use Rattle.requests.specs.declared.replay.QueuePlan.{QueuePlan}
 use Rattle.commands.specs.Lists.{IsListCut, lists_of}
 use Rattle.commands.specs.Replay.{ArePages, IsListPage, IsMoveList, IsPrinted, IsReplay, LacksMemory, Reads, ReplayRefused, Says}
 

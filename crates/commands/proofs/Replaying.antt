@@ -23,8 +23,8 @@ use Rattle.ring_machine.specs.text.Moves.{IsInRange, text_of}
 use Rattle.ring_machine.proofs.QueuesRunning.{did-made, did-refused}
 use Rattle.ring_machine.proofs.shared.Running.{joined}
 use Rattle.text_lines.specs.Parts.{lines_of, says_something}
-use Rattle.commands.specs.declared.replay.QueuePlan.{QueuePlan}
-use Rattle.commands.specs.declared.replay.Shown.{Shown}
+use Rattle.requests.specs.declared.replay.QueuePlan.{QueuePlan}
+use Rattle.requests.specs.declared.replay.Shown.{Shown}
 use Rattle.commands.specs.Replay.{after_it, count_line, drawn_at_last, drawn_at_once, drawn_of, last_from, line_in, opening_of, shown_registers, told_line, world_of, HasData, IsDrawn, IsListPage, IsPrinted, LacksMemory, IsFaulty, IsMoveList, IsNoMove, IsPageOf, IsReplay, Reads, Says, Tells, WroteMove}
 
 -- what reading a line answers, in words of lists

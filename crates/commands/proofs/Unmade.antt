@@ -4,8 +4,8 @@ use lib.Count.{ones}
 use Rattle.refusals.specs.declared.errors.RingError.{RingError}
 use Rattle.refusals.specs.declared.errors.RingError.TheVariants as ring
 use Rattle.limits.specs.RingLength.{IsRingLength}
-use Rattle.commands.specs.declared.refusal.Refusal.TheVariants.{Ring}
-use Rattle.commands.specs.Refusals.{IsUnmade}
+use Rattle.requests.specs.declared.refusal.Refusal.TheVariants.{Ring}
+use Rattle.requests.specs.Refusals.{IsUnmade}
 
 pub eight_is_lawful : IsRingLength 8
 unfolding ones

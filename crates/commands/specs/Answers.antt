@@ -3,17 +3,18 @@ use Rattle.std.specs.Prelude.{◌≡◌, ◌⊎◌, ℕ, List, [], ◌∷◌, �
 use Rattle.std.specs.Result.{result_map_both}
 use Rattle.std.specs.Io.KnownBytes.{Appends, Keeps}
 use Rattle.hex.specs.Hex.{encode_lower}
-use Rattle.commands.specs.declared.request.Request.{Request}
-use Rattle.commands.specs.declared.request.Request.TheVariants.{Once, Decode, Replay}
-use Rattle.commands.specs.declared.refusal.Refusal.{Refusal}
-use Rattle.commands.specs.declared.refusal.Refusal.TheVariants.{Memory, Output}
-use Rattle.commands.specs.declared.answering.TheConstants.{DONE, REFUSED}
-use Rattle.commands.specs.declared.decode.Form.{Form}
+use Rattle.requests.specs.declared.request.Request.{Request}
+use Rattle.requests.specs.declared.request.Request.TheVariants.{Once, Decode, Replay}
+use Rattle.requests.specs.declared.refusal.Refusal.{Refusal}
+use Rattle.requests.specs.declared.refusal.Refusal.TheVariants.{Memory, Output}
+use Rattle.requests.specs.declared.answers.TheConstants.{DONE, REFUSED}
+use Rattle.requests.specs.declared.decode.Form.{Form}
+use Rattle.requests.specs.Answers.{EndsBy}
 use Rattle.commands.specs.Digits.{bytes_in}
 use Rattle.commands.specs.Frame.{frame_in}
 use Rattle.commands.specs.Decoding.{IsDecoded}
 use Rattle.commands.specs.Replay.{EndsReplay, IsReplayed, RefusesReplay}
-use Rattle.commands.specs.Refusals.{IsUnmade}
+use Rattle.requests.specs.Refusals.{IsUnmade}
 
 -- the lower case digits of a frame, and LF
 abbrev pub line_of : List ℕ → List ℕ
@@ -52,11 +53,6 @@ Refuses request input e old new = (IsWithheld request input e × Keeps old new) 
 abbrev pub Ends : Result (List ℕ) Refusal → ℕ → Option (List ℕ) → Option (List ℕ) → Type 0
 Ends (Ok frame) status old new = ((status ≡ DONE) × Appends old new (line_of frame)) ⊎ (status ≡ REFUSED)
 Ends (Err refusal) status old new = (status ≡ REFUSED) × Keeps old new
-
--- how a command ends, by its result: the text is printed, or the command is refused; a refusal prints nothing
-abbrev pub EndsBy : Result (List ℕ) Refusal → ℕ → Option (List ℕ) → Option (List ℕ) → Type 0
-EndsBy (Ok text) status old new = ((status ≡ DONE) × Appends old new text) ⊎ (status ≡ REFUSED)
-EndsBy (Err refusal) status old new = (status ≡ REFUSED) × Keeps old new
 
 -- how `decode` ends: by the meaning of the digits in that form, or refused with nothing printed if memory is missing
 abbrev pub EndsDecode : Form → List ℕ → ℕ → Option (List ℕ) → Option (List ℕ) → Type 0

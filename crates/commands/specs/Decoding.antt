@@ -7,23 +7,10 @@ use Rattle.descriptor.specs.Receive.{rx_read_form, rx_read_bytes, rx_back_form, 
 use Rattle.descriptor.specs.Transmit.{tx_read_form, tx_read_bytes, tx_back_form, tx_back_bytes}
 use Rattle.descriptor.specs.Texts.{rx_read_text, rx_back_text, tx_read_text, tx_back_text}
 use Rattle.descriptor.specs.Refusal.{IsLowest}
-use Rattle.commands.specs.declared.decode.Form.{Form}
-use Rattle.commands.specs.declared.decode.Form.TheVariants.{RxRead, RxBack, TxRead, TxBack}
-use Rattle.commands.specs.declared.refusal.Refusal.{Refusal}
-use Rattle.commands.specs.declared.refusal.Refusal.TheVariants.{Descriptor}
-
--- the two words that name a form: its ring, and its format
-abbrev pub ring_word : Form → List ℕ
-ring_word RxRead = codes "rx"
-ring_word RxBack = codes "rx"
-ring_word TxRead = codes "tx"
-ring_word TxBack = codes "tx"
-
-abbrev pub format_word : Form → List ℕ
-format_word RxRead = codes "read"
-format_word RxBack = codes "back"
-format_word TxRead = codes "read"
-format_word TxBack = codes "back"
+use Rattle.requests.specs.declared.decode.Form.{Form}
+use Rattle.requests.specs.declared.decode.Form.TheVariants.{RxRead, RxBack, TxRead, TxBack}
+use Rattle.requests.specs.declared.refusal.Refusal.{Refusal}
+use Rattle.requests.specs.declared.refusal.Refusal.TheVariants.{Descriptor}
 
 -- the datasheet's layout of a form
 abbrev pub figure_of : Form → layout.Form

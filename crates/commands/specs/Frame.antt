@@ -2,8 +2,8 @@
 use Rattle.std.specs.Prelude.{ℕ, ◌≤◌, ◌&&◌, nat_le, if◌then◌else◌, List, length, Result, Ok, Err}
 use Rattle.limits.specs.declared.profile.TheConstants.{LEAST_FRAME}
 use Rattle.commands.specs.declared.passing.TheConstants.{MOST_PASSED}
-use Rattle.commands.specs.declared.refusal.Refusal.{Refusal}
-use Rattle.commands.specs.declared.refusal.Refusal.TheVariants.{FrameLength}
+use Rattle.requests.specs.declared.refusal.Refusal.{Refusal}
+use Rattle.requests.specs.declared.refusal.Refusal.TheVariants.{FrameLength}
 use Rattle.commands.specs.Digits.{bytes_in}
 
 -- at least an Ethernet header, and at most what the free buffers of a ring of 8 hold

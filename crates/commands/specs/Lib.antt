@@ -1,4 +1,3 @@
-pub mod Refusals
 pub mod Digits
 pub mod Frame
 pub mod Decoding

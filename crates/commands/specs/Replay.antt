@@ -21,13 +21,14 @@ use Rattle.ring_machine.specs.declared.registers.Side.TheVariants as side
 use Rattle.ring_machine.specs.text.Moves.{IsInRange, name_of, text_of}
 use Rattle.ring_machine.specs.text.RegisterTexts.{registers_text}
 use Rattle.ring_model.specs.shared.Agreement.{bit}
-use Rattle.commands.specs.declared.replay.Pictures.{Pictures}
-use Rattle.commands.specs.declared.replay.Pictures.TheVariants as pictures
-use Rattle.commands.specs.declared.replay.QueuePlan.{QueuePlan}
-use Rattle.commands.specs.declared.replay.Shown.{Shown}
-use Rattle.commands.specs.declared.answering.TheConstants.{DONE, REFUSED}
-use Rattle.commands.specs.declared.refusal.Refusal.{Refusal}
-use Rattle.commands.specs.declared.refusal.Refusal.TheVariants as refusal
+use Rattle.requests.specs.Replaying.{is_page}
+use Rattle.requests.specs.declared.replay.Pictures.{Pictures}
+use Rattle.requests.specs.declared.replay.Pictures.TheVariants as pictures
+use Rattle.requests.specs.declared.replay.QueuePlan.{QueuePlan}
+use Rattle.requests.specs.declared.replay.Shown.{Shown}
+use Rattle.requests.specs.declared.answers.TheConstants.{DONE, REFUSED}
+use Rattle.requests.specs.declared.refusal.Refusal.{Refusal}
+use Rattle.requests.specs.declared.refusal.Refusal.TheVariants as refusal
 use Rattle.commands.specs.Lists.{lists_of}
 use Rattle.commands.specs.Page.{page_of}
 
@@ -126,11 +127,7 @@ drawn_at_last pictures.Last last = last
 drawn_at_last pictures.States last = None
 drawn_at_last pictures.Page last = None
 
--- Whether the output is a page, and whether a queue is drawn as a line of JSON with its state.
-abbrev pub is_page : Pictures → Bool
-is_page pictures.Page = true
-is_page form = false
-
+-- Whether a queue is drawn as a line of JSON with its state.
 abbrev pub has_states : Pictures → Bool
 has_states pictures.States = true
 has_states pictures.Page = true

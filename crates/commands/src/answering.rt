@@ -1,25 +1,19 @@
 //! Serves a request on the three streams, and returns its exit status.
 ghost use Rattle.std.specs.Prelude.{◌≡◌, ◌⊎◌, IfErr, IfOk, OnOk};
 ghost use Rattle.std.specs.String.{string_bytes};
-ghost use Rattle.std.specs.Io.KnownBytes.{Appends, Keeps};
+ghost use Rattle.std.specs.Io.KnownBytes.{Keeps};
+ghost use Rattle.requests.specs.declared.answers.TheConstants.{DONE, REFUSED};
 ghost use Rattle.commands.specs.Answers.{EndsAs, IsText, IsWithheld, Prints, Refuses};
 
 use crate::decode::decode;
 use crate::explaining::explain_request;
 use crate::once::once;
-use crate::refusal::Refusal;
 use crate::replay::replay_explained;
-use crate::request::Request;
+use requests::{DONE, REFUSED, Refusal, Request, print, refuse_explained};
 use std::alloc::Global;
 use std::io::{Read, Write};
 use std::sync::Wait;
 use std::thread::Threads;
-
-/// The exit status of a request that succeeded.
-pub const DONE: u8 = 0;
-
-/// The exit status of a request that was refused.
-pub const REFUSED: u8 = 1;
 
 /// Serves a request, and returns an exit status. The text goes to `output`, with status 0. A refusal goes to `faults`
 /// as one line, `refused` with its number and its words, with status 1; the line or the record of the input that it
@@ -97,51 +91,4 @@ fn text_of<R: Threads + Wait + Sync, I: Read>(
         Request::Decode { form, digits } => decode(alloc, form, digits),
         Request::Replay { plan } => replay_explained(alloc, plan, input, why),
     }
-}
-
-/// Prints a text and flushes the output. Returns `Output` if that fails; part of the text may then be written.
-pub fn print<W: Write>(text: &str, output: &mut W) -> Result<(), Refusal>
-    ensures done { OnOk result (Appends (W.contents output.old) (W.contents output.new) text.now) }
-    ensures refused { IfErr result (λ e. e ≡ Refusal.Output) }
-{
-    put(text.as_bytes(), output)
-}
-
-/// Writes any bytes and flushes the output. Returns `Output` if that fails; some of them may then be written.
-pub fn put<W: Write>(bytes: &[u8], output: &mut W) -> Result<(), Refusal>
-    ensures done { OnOk result (Appends (W.contents output.old) (W.contents output.new) bytes.now) }
-    ensures refused { IfErr result (λ e. e ≡ Refusal.Output) }
-{
-    output.write_all(bytes).map_err(|_| Refusal::Output)?;
-    output.flush().map_err(|_| Refusal::Output)
-}
-
-/// Prints a refusal as one line, and returns its exit status. A failed write is ignored.
-pub fn refuse<E: Write>(faults: &mut E, refusal: Refusal) -> u8
-    ensures { result ≡ REFUSED }
-{
-    let number = refusal.number();
-    let _ = match (refusal.line(), refusal.record()) {
-        (Some(line), _) => writeln!(faults, "line {line}: refused {number} {refusal}"),
-        (None, Some(record)) => writeln!(faults, "record {record}: refused {number} {refusal}"),
-        (None, None) => writeln!(faults, "refused {number} {refusal}"),
-    };
-    REFUSED
-}
-
-/// Prints a refusal as one line and, with `explain`, its explanation as a second one: `why`, or a general sentence if
-/// `why` is empty. Returns the exit status. Failed writes are ignored.
-pub fn refuse_explained<E: Write>(faults: &mut E, refusal: Refusal, why: &str, explain: bool) -> u8
-    ensures { result ≡ REFUSED }
-{
-    let status = refuse(faults, refusal);
-    if explain {
-        let text = if why.is_empty() {
-            refusal.advice()
-        } else {
-            why
-        };
-        let _ = writeln!(faults, "note: {text}");
-    }
-    status
 }

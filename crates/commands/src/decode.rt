@@ -4,42 +4,14 @@ ghost use Rattle.std.specs.String.{string_bytes};
 ghost use Rattle.descriptor.specs.Layout.{AreBytes, KeepsBytes};
 ghost use Rattle.descriptor.specs.Refusal.{IsLowest};
 ghost use Rattle.commands.specs.Digits.{bytes_in};
-ghost use Rattle.commands.specs.Decoding.{IsDecoded, IsRead, format_word, ring_word};
+ghost use Rattle.commands.specs.Decoding.{IsDecoded, IsRead};
+ghost use Rattle.requests.specs.Decoding.{format_word, ring_word};
 
 use crate::digits::bytes_of;
-use crate::refusal::Refusal;
 use descriptor::{DescError, Descriptor, RxBack, RxRead, TxBack, TxRead};
+use requests::{Form, Refusal};
 use std::alloc::Global;
 use std::fmt::Display;
-
-/// The form of a descriptor. Its bytes do not determine it.
-#[derive(Clone, Copy)]
-pub enum Form {
-    /// A receive descriptor as the driver posts it (82599 datasheet, 7.1.6.1).
-    RxRead,
-    /// A receive descriptor as the controller writes it back (82599 datasheet, 7.1.6.2).
-    RxBack,
-    /// A transmit descriptor as the driver posts it (82599 datasheet, 7.2.3.2.4).
-    TxRead,
-    /// A transmit descriptor as the controller writes it back (82599 datasheet, 7.2.3.2.4).
-    TxBack,
-}
-
-impl Form {
-    /// The form for the ring `rx` or `tx` and the format `read` or `back`, or `None` for other words.
-    pub fn named(ring: &str, format: &str) -> Option<Form>
-        ensures { (form : Form)
-            → (result ≡ Some form) ↔ (ring.now ≡ ring_word form) × (format.now ≡ format_word form) }
-    {
-        match (ring, format) {
-            ("rx", "read") => Some(Form::RxRead),
-            ("rx", "back") => Some(Form::RxBack),
-            ("tx", "read") => Some(Form::TxRead),
-            ("tx", "back") => Some(Form::TxBack),
-            _ => None,
-        }
-    }
-}
 
 /// Decodes a descriptor, and returns its line of text.
 ///

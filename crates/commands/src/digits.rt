@@ -2,8 +2,8 @@
 ghost use Rattle.std.specs.Prelude.{◌≡◌, ◌⊎◌, IfOk, IfErr};
 ghost use Rattle.commands.specs.Digits.{bytes_in};
 
-use crate::refusal::Refusal;
 use hex::FromHexError;
+use requests::Refusal;
 use std::alloc::Global;
 
 /// Parses pairs of hex digits of either case.

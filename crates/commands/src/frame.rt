@@ -4,8 +4,8 @@ ghost use Rattle.commands.specs.Frame.{frame_in};
 
 use crate::digits::bytes_of;
 use crate::passing::MOST_PASSED;
-use crate::refusal::Refusal;
 use limits::LEAST_FRAME;
+use requests::Refusal;
 use std::alloc::Global;
 
 /// Parses pairs of hex digits of either case as a frame.

@@ -16,21 +16,17 @@ mod decode;
 mod digits;
 mod explaining;
 mod frame;
-mod input;
 mod lists;
 mod once;
 mod page;
 mod passing;
-mod refusal;
 mod replay;
-mod request;
 mod telling;
 
-pub use answering::{DONE, REFUSED, answer, perform, print, put, refuse, refuse_explained};
-pub use decode::Form;
-pub use explaining::{Excerpt, explain_queues, line_at};
-pub use input::read_text;
+pub use answering::{answer, perform};
 pub use page::{PAGE_HEAD, PAGE_TAIL, page_with};
-pub use refusal::Refusal;
-pub use replay::{NOTES, PAGE, PAGE_DATA, Pictures, QueuePlan, Shown, replay_text};
-pub use request::Request;
+pub use replay::replay_text;
+pub use requests::{
+    DONE, Excerpt, Form, NOTES, PAGE, PAGE_DATA, Pictures, QueuePlan, REFUSED, Refusal, Request,
+    Shown, explain_queues, line_at, print, put, read_text, refuse, refuse_explained,
+};

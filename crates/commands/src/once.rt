@@ -7,8 +7,8 @@ ghost use Rattle.commands.specs.Frame.{frame_in};
 
 use crate::frame::frame_of;
 use crate::passing::{Passage, pass};
-use crate::refusal::Refusal;
 use buffer_pool::Packet;
+use requests::Refusal;
 use std::alloc::{AllocError, Global};
 use std::sync::Wait;
 use std::thread::Threads;

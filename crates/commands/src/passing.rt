@@ -6,15 +6,15 @@ ghost use Rattle.limits.specs.RingLength.{IsRingLength};
 ghost use Rattle.rx_ring.specs.Calls.{IsFreshController, IsFreshDriver};
 ghost use Rattle.rx_ring.specs.Ends.{driver_state, taken};
 ghost use Rattle.commands.specs.Frame.{IsFrameLength};
-ghost use Rattle.commands.specs.Refusals.{IsUnmade};
+ghost use Rattle.requests.specs.Refusals.{IsUnmade};
 ghost use Rattle.commands.specs.Passing.{CanPass, Fits, HasPassed, HasStored, Offers, StoredOnly, TookPacket};
 
-use crate::refusal::Refusal;
 use arrayvec::ArrayVec;
 use buffer_pool::{Packet, PoolError, Stash, Stock};
 use controller::{Offer, RxController};
 use driver::{QueueDriver, RxDriver};
 use limits::BUFFER_BYTES;
+use requests::Refusal;
 use rx_ring::{RxControllerEnd, RxDriverEnd, RxRing, meet_rx};
 use std::alloc::Global;
 use std::sync::Wait;

@@ -7,115 +7,45 @@ ghost use Rattle.refusals.specs.declared.errors.MachineError.TheVariants.{RingLe
 ghost use Rattle.ring_machine.specs.Queues.{AreQueues, QueuesAgree};
 ghost use Rattle.text_lines.specs.Parts.{lines_of, says_something};
 ghost use Rattle.commands.specs.Lists.{lists_of};
-ghost use Rattle.commands.specs.Replay.{ArePages, HasData, HasPage, IsFaulty, IsListPage, IsMoveList, IsNoMove, IsPageOf, IsReplayed, LacksMemory, Reads, RefusesReplay, ReplayRefused, WroteMove, drawn_at_last, drawn_at_once, drawn_of, has_states, is_page, opening_of, queue_drawing, shown_registers, world_of};
+ghost use Rattle.commands.specs.Replay.{ArePages, HasData, HasPage, IsFaulty, IsListPage, IsMoveList, IsNoMove, IsPageOf, IsReplayed, LacksMemory, Reads, RefusesReplay, ReplayRefused, WroteMove, drawn_at_last, drawn_at_once, drawn_of, has_states, opening_of, queue_drawing, shown_registers, world_of};
+ghost use Rattle.requests.specs.Replaying.{is_page};
 
-use crate::explaining::{explain_move, line_at};
-use crate::input::read_text;
+use crate::explaining::explain_move;
 use crate::lists::cut_list;
 use crate::page::page_with;
-use crate::refusal::Refusal;
 use crate::telling::{write_count, write_told};
 use pictures::{write_opening, write_queue, write_state};
-use ring_machine::{Completion, MachineError, Move, Queues, Registers};
+use requests::{Pictures, QueuePlan, Refusal, Shown, line_at, read_text};
+use ring_machine::{MachineError, Move, Queues, Registers};
 use std::alloc::{AllocError, Global};
 use std::io::Read;
 use text_lines::{cut, says_something};
 
-/// After which moves `replay` draws the queue of the move, and how.
-#[derive(Clone, Copy, PartialEq, Eq)]
-pub enum Pictures {
-    /// After none.
-    Never,
-    /// After each, as `write_queue` of `pictures` draws it.
-    Each,
-    /// After the last one, as `write_queue` draws it.
-    Last,
-    /// After each, as a line of JSON (`write_state`). Before the first move there is a line for each queue
-    /// (`write_opening`).
-    States,
-    /// The same, as the data of an HTML page, which is the whole output. It shows [`PAGE`].
-    Page,
+/// Whether queues are drawn as lines of JSON.
+fn has_states(pictures: Pictures) -> bool
+    ensures { result ≡ has_states pictures }
+{
+    matches!(pictures, Pictures::States | Pictures::Page)
 }
 
-impl Pictures {
-    /// Whether the output is a page.
-    pub fn is_page(self) -> bool
-        ensures { result ≡ is_page self }
-    {
-        matches!(self, Pictures::Page)
-    }
-
-    /// Whether queues are drawn as lines of JSON.
-    fn has_states(self) -> bool
-        ensures { result ≡ has_states self }
-    {
-        matches!(self, Pictures::States | Pictures::Page)
-    }
-
-    /// The move whose queue is drawn directly after its line.
-    fn at_once(self, action: Move) -> Option<Move>
-        ensures { result ≡ drawn_at_once self action }
-    {
-        match self {
-            Pictures::Each | Pictures::States | Pictures::Page => Some(action),
-            Pictures::Never | Pictures::Last => None,
-        }
-    }
-
-    /// The move whose queue is drawn after all lines.
-    fn at_last(self, last: Option<Move>) -> Option<Move>
-        ensures { result ≡ drawn_at_last self last }
-    {
-        match self {
-            Pictures::Last => last,
-            Pictures::Never | Pictures::Each | Pictures::States | Pictures::Page => None,
-        }
+/// The move whose queue is drawn directly after its line.
+fn at_once(pictures: Pictures, action: Move) -> Option<Move>
+    ensures { result ≡ drawn_at_once pictures action }
+{
+    match pictures {
+        Pictures::Each | Pictures::States | Pictures::Page => Some(action),
+        Pictures::Never | Pictures::Last => None,
     }
 }
 
-/// The output for each move: its note as a line of words or as a JSON object, and, if selected, the registers and a
-/// picture of its queue after the move.
-#[derive(Clone, Copy)]
-pub struct Shown {
-    pub json: bool,
-    pub registers: bool,
-    pub pictures: Pictures,
-}
-
-/// Notes only, as lines of words.
-pub const NOTES: Shown = Shown {
-    json: false,
-    registers: false,
-    pictures: Pictures::Never,
-};
-
-/// The data of a page: notes and registers as objects, and states.
-pub const PAGE_DATA: Shown = Shown {
-    json: true,
-    registers: true,
-    pictures: Pictures::States,
-};
-
-/// An HTML page with these data.
-pub const PAGE: Shown = Shown {
-    json: true,
-    registers: true,
-    pictures: Pictures::Page,
-};
-
-/// The queues on which the moves are made, and the output: the number of pairs, the descriptors per ring, whether the
-/// queues begin enabled, how the transmit queues report, whether each list has fresh queues, and the form of the
-/// output.
-#[derive(Clone, Copy)]
-pub struct QueuePlan {
-    pub pairs: u32,
-    pub ring: u32,
-    pub enabled: bool,
-    pub completion: Completion,
-    /// Whether a line `# end` ends a list: the count is printed, and the next list has fresh queues. Otherwise such a
-    /// line is a comment.
-    pub lists: bool,
-    pub shown: Shown,
+/// The move whose queue is drawn after all lines.
+fn at_last(pictures: Pictures, last: Option<Move>) -> Option<Move>
+    ensures { result ≡ drawn_at_last pictures last }
+{
+    match pictures {
+        Pictures::Last => last,
+        Pictures::Never | Pictures::Each | Pictures::States | Pictures::Page => None,
+    }
 }
 
 /// Reads a list of moves to its end and makes them on new queues of this plan. Returns one line per move, then the
@@ -288,7 +218,7 @@ fn page_of(
         &mut page,
         shown.pictures,
         queues,
-        shown.pictures.at_last(last),
+        at_last(shown.pictures, last),
     )?;
     write_count(&mut page, shown.json, made, read)?;
     Ok(page)
@@ -310,7 +240,7 @@ fn opening(alloc: Global, pictures: Pictures, queues: &Queues) -> Result<String,
     ensures { IfOk result (λ text. string_bytes text ≡ opening_of pictures queues.now) }
 {
     let mut text = String::new(alloc);
-    if pictures.has_states() {
+    if has_states(pictures) {
         write_opening(&mut text, queues)?;
     }
     Ok(text)
@@ -340,7 +270,7 @@ fn draw_queue(
 ) -> Result<(), AllocError>
     ensures { OnOk result (string_bytes page.new ≡ string_bytes page.old ++ queue_drawing pictures queues.now action.now) }
 {
-    if pictures.has_states() {
+    if has_states(pictures) {
         write_state(page, queues, action)
     } else {
         write_queue(page, queues, action)
@@ -365,7 +295,7 @@ fn write_move(
         page,
         shown.pictures,
         queues,
-        shown.pictures.at_once(*action),
+        at_once(shown.pictures, *action),
     )?;
     Ok(told.is_some())
 }

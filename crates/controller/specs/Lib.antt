@@ -1,6 +1,5 @@
 pub mod Arenas
 pub mod Chained
-pub mod FillSize
 pub mod Handshaking
 pub mod Laid
 pub mod Receiving

@@ -9,7 +9,6 @@
 
 mod arena;
 mod control;
-mod fill_size;
 mod offer;
 mod receiving;
 mod sending;
@@ -18,7 +17,7 @@ mod tally;
 mod transmitting;
 mod wire;
 
-pub use fill_size::is_fill_size;
+pub use limits::is_fill_size;
 pub use offer::Offer;
 pub use receiving::RxController;
 pub use refusals::CtlError;

@@ -4,7 +4,7 @@ ghost use Rattle.ring_model.specs.shared.Frames.{HasFrameLength, frames};
 ghost use Rattle.ring_model.specs.shared.Handshakes.{is_serving};
 ghost use Rattle.ring_model.specs.shared.Segments.{piece_of};
 ghost use Rattle.rx_ring.specs.Ends.{controller_state, stored, seen, is_quiet};
-ghost use Rattle.controller.specs.FillSize.{IsFillSize};
+ghost use Rattle.limits.specs.FillSize.{IsFillSize};
 ghost use Rattle.controller.specs.Handshaking.{TurnedControl, begins};
 ghost use Rattle.controller.specs.Receiving.{IsIdle, Offered, Finished, frames_by, may_store};
 ghost use Rattle.controller.specs.Tallying.{AddsUp, nothing};

@@ -4,7 +4,7 @@ ghost use Rattle.counters.specs.Paired.{ArePaired, IsFresh};
 ghost use Rattle.refusals.specs.declared.errors.CounterError.TheVariants.{Memory};
 
 use crate::{DriveCell, DrivePen, StatCell, StatPen};
-use cells::CounterError;
+use refusals::CounterError;
 use std::alloc::Global;
 
 /// The cells of a flow. Threads share them.

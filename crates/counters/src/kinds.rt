@@ -1,6 +1,7 @@
 //! The kinds of cells: their numbers, the relation between these, and the names of their cells.
 
-use cells::{Moment, MomentCell, MomentPass, MomentPen};
+use crate::cell::{MomentCell, MomentPass, MomentPen};
+use crate::moment::Moment;
 use crossbeam_utils::atomic::seq_cell::Words;
 use limits::{LEAST_FRAME, MOST_FRAME};
 

@@ -1,19 +1,35 @@
-//! Counters that other threads read while workers run.
-//! Depends on `cells`, `limits` and `crossbeam_utils`.
-//! A read returns the numbers of one moment, with the relation of their kind; the crate `cells` states it.
+//! A few numbers that one thread writes and others read, and the counters of flows, which are such numbers.
+//! Depends on `refusals`, `limits`, `crossbeam_utils` and `atomic_table`.
+//! A read returns the lawful numbers of one moment, and no number falls from one read of a pass to the next.
+//!
+//! A [`MomentCell`] holds the numbers. One [`MomentPen`] writes them, all at one moment, and any number of
+//! [`MomentPass`]es read them, each from its own thread. A read shows the numbers of one moment that was written, or of
+//! the opening, in which all are 0. The relation of their kind ([`Moment`]) holds between them, and none is below those
+//! that this pass has read, nor below those that the pen had written when it made the pass. `rule` has this rule, which
+//! each step of any thread keeps, and `numbers` the words under it.
 //!
 //! [`StatCell`] has the frames offered to a queue, [`DriveCell`] a driver's counts of the frames that it took, and
-//! [`ByteCell`] frames and bytes. Each is a [`MomentCell`]: one pen writes its numbers, all at one moment, and passes
-//! read them from other threads. A further kind of cell needs its numbers, their relation ([`Moment`]) and its names.
+//! [`ByteCell`] frames and bytes. A further kind of cell needs its numbers, their relation ([`Moment`]) and its names.
 //! [`FlowCells`] has one cell for each side of a flow, and [`FlowPens`] their pens.
+//!
+//! Making a cell allocates; no other call does. A call that reads or writes may wait, and no bound is stated: a write
+//! waits for other writes and for readers that found one in their way, and a read that finds a write in its way waits
+//! likewise.
 #![tactic(auto)]
 
+mod cell;
 mod flows;
 mod kinds;
+mod moment;
+mod numbers;
+mod rule;
 
-pub use cells::{CounterError, Moment, MomentCell, MomentPass, MomentPen};
+pub use cell::{MomentCell, MomentPass, MomentPen};
 pub use flows::{FlowCells, FlowPens};
 pub use kinds::{
     ByteCell, BytePass, BytePen, Bytes, DriveCell, DrivePass, DrivePen, Driven, Offered, StatCell,
     StatPass, StatPen,
 };
+pub use moment::Moment;
+pub use numbers::{Numbers, View};
+pub use refusals::CounterError;

@@ -16,8 +16,8 @@ mod reclaiming;
 mod rx_driver;
 mod tx_driver;
 
-pub use limits::MOST_RS_EVERY;
+pub use limits::{MOST_BATCH, MOST_RS_EVERY};
 pub use queue_driver::QueueDriver;
 pub use refusals::DriverError;
-pub use rx_driver::{MOST_BATCH, RxDriver};
+pub use rx_driver::RxDriver;
 pub use tx_driver::TxDriver;

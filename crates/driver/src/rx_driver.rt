@@ -16,14 +16,10 @@ mod reclaiming;
 
 use arrayvec::ArrayVec;
 use buffer_pool::{Packet, Stash};
+use limits::MOST_BATCH;
 use refusals::DriverError;
 use rx_ring::{DriverEnd, RxDriverEnd, RxRing};
 use std::marker::Model;
-
-/// The maximum number of packets of a batch, and of a list of packets.
-pub const MOST_BATCH: usize = 32;
-
-const _: () = prove!(MOST_BATCH == 32);
 
 /// A driver of a receive queue: its end of the ring, the chain of a frame whose last segment is not taken yet, and the
 /// batch size.
@@ -37,7 +33,7 @@ pub struct RxDriver {
 }
 
 impl Model for RxDriver {
-    ghost use Rattle.driver.specs.declared.rx_driver.TheConstants.{MOST_BATCH};
+    ghost use Rattle.limits.specs.declared.profile.TheConstants.{MOST_BATCH};
     ghost use Rattle.driver.specs.receive.Receiver.{Receiver, IsRxDriver};
 
     ghost Value = { Receiver };

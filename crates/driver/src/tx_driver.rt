@@ -14,11 +14,10 @@ mod cleaning;
 mod handshake;
 mod posting;
 
-use crate::rx_driver::MOST_BATCH;
 use arrayvec::ArrayVec;
 use buffer_pool::{Packet, Stash};
 use cleaning::clean_all;
-use limits::MOST_RS_EVERY;
+use limits::{MOST_BATCH, MOST_RS_EVERY};
 use posting::{is_too_long, post_fitting};
 use refusals::DriverError;
 use std::marker::Model;

@@ -26,8 +26,8 @@ use Rattle.flows.specs.Keys.{DriverKey}
 use Rattle.flows.specs.declared.counts.Counts.{Counts}
 use Rattle.flows.specs.declared.phase.Phase.{Phase}
 use Rattle.flows.specs.declared.phase.Phase.TheVariants.{EnablingTx, EnablingRx, Forwarding, Disabling, Reclaiming, Over}
-use Rattle.flows.specs.declared.report.Ended.{Ended}
-use Rattle.flows.specs.declared.report.Ended.TheVariants.{Drained, Cut}
+use Rattle.forwarding.specs.declared.report.Ended.{Ended}
+use Rattle.forwarding.specs.declared.report.Ended.TheVariants.{Drained, Cut}
 use Rattle.flows.specs.Driven.{AreExact, AreFull, Relayed, EndedAs, HasEnded, IsAt, IsClosing, RxStands, TxStands, taken_frames, posted_frames}
 
 -- how many are left is told by the head, the ring's length, and a number of segments

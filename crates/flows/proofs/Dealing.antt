@@ -2,8 +2,8 @@
 use Rattle.std.proofs.Common.{◌≡◌, ◌∙◌, ℕ, ◌-◌, ◌<◌, Bool, List, [], ◌∷◌, refl, ap, sym, subst, length, map, zero, suc, arith}
 use Rattle.std.proofs.lemmas.List.{length-map}
 use Rattle.std.proofs.lemmas.Simd.{map-map}
-use Rattle.forwarding.specs.declared.gate.Who.{Who}
-use Rattle.forwarding.specs.declared.gate.Event.{Event}
+use Rattle.teams.specs.declared.gate.Who.{Who}
+use Rattle.teams.specs.declared.gate.Event.{Event}
 use Rattle.refusals.specs.declared.errors.ForwardError.{ForwardError}
 use Rattle.refusals.specs.declared.errors.ForwardError.TheVariants.{Memory}
 use Rattle.teams.specs.Dealing.{every, IsDealt}

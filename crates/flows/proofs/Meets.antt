@@ -20,9 +20,9 @@ use Rattle.tx_ring.specs.Meeting as transmitted
 use Rattle.tx_ring.specs.Records.{Posting}
 use Rattle.forwarding.specs.Touching.{touch}
 use Rattle.flows.specs.declared.counts.Counts.{Counts}
-use Rattle.flows.specs.declared.report.Ended.{Ended}
-use Rattle.flows.specs.declared.report.Ended.TheVariants.{Drained, Cut}
-use Rattle.flows.specs.declared.report.FlowReport.{FlowReport}
+use Rattle.forwarding.specs.declared.report.Ended.{Ended}
+use Rattle.forwarding.specs.declared.report.Ended.TheVariants.{Drained, Cut}
+use Rattle.forwarding.specs.declared.report.FlowReport.{FlowReport}
 use Rattle.flows.specs.declared.concluding.DriverDone.{DriverDone}
 use Rattle.flows.specs.declared.concluding.ControllerDone.{ControllerDone}
 use Rattle.flows.specs.Outputs.{Chosen, fitting}

@@ -6,7 +6,7 @@ use Rattle.buffer_pool.specs.Packed.{bytes_of, shape_of}
 use Rattle.ring_model.specs.shared.Frames.{Bytes}
 use Rattle.rx_ring.specs.Ends as receive
 use Rattle.tx_ring.specs.Ends as transmit
-use Rattle.driver.specs.declared.rx_driver.TheConstants.{MOST_BATCH}
+use Rattle.limits.specs.declared.profile.TheConstants.{MOST_BATCH}
 use Rattle.driver.specs.transmit.Transmitter.{Transmitter}
 use Rattle.forwarding.specs.Touching.{touch}
 use Rattle.forwarding.specs.Driving.{Driving, Moved, Counted, Drove, HeldBack, OnlyReceived}

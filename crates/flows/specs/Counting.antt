@@ -2,7 +2,7 @@
 use Rattle.std.specs.Prelude.{ℕ, ◌+◌, nat_lt, List, [], ◌∷◌, if◌then◌else◌}
 use Rattle.controller.specs.declared.tally.Tally.{Tally}
 use Rattle.flows.specs.declared.counts.Counts.{Counts}
-use Rattle.flows.specs.declared.report.FlowReport.{FlowReport}
+use Rattle.forwarding.specs.declared.report.FlowReport.{FlowReport}
 
 -- As long as no more frames were taken, each count has room for one more turn.
 abbrev pub most_exact : ℕ

@@ -25,8 +25,8 @@ use Rattle.flows.specs.declared.counts.Counts.{Counts}
 use Rattle.flows.specs.declared.load.Load.{Load}
 use Rattle.flows.specs.declared.phase.Phase.{Phase}
 use Rattle.flows.specs.declared.phase.Phase.TheVariants.{EnablingTx, EnablingRx, Forwarding, Disabling, Reclaiming, Over}
-use Rattle.flows.specs.declared.report.Ended.{Ended}
-use Rattle.flows.specs.declared.report.Ended.TheVariants.{Drained, Cut}
+use Rattle.forwarding.specs.declared.report.Ended.{Ended}
+use Rattle.forwarding.specs.declared.report.Ended.TheVariants.{Drained, Cut}
 use Rattle.flows.specs.declared.concluding.DriverDone.{DriverDone}
 
 abbrev pub taken_frames : receive.DriverSide → List Bytes

@@ -6,8 +6,8 @@ use Rattle.ring_model.specs.shared.Frames.{Bytes, frames}
 use Rattle.ring_model.specs.shared.Segments.{piece_of}
 use Rattle.ring_model.specs.transmit.Lawful.{IsLawfulTxLedger}
 use Rattle.ring_model.specs.transmit.Ring.{TxLedger, carried}
-use Rattle.flows.specs.declared.report.Ended.TheVariants.{Drained}
-use Rattle.flows.specs.declared.report.FlowReport.{FlowReport}
+use Rattle.forwarding.specs.declared.report.Ended.TheVariants.{Drained}
+use Rattle.forwarding.specs.declared.report.FlowReport.{FlowReport}
 use Rattle.flows.specs.Outputs.{IsLawfulOutput, IsFullOutput}
 use Rattle.flows.specs.Keys.{Plan}
 

@@ -7,8 +7,8 @@ ghost use Rattle.flows.specs.Reports.{IsReport};
 ghost use Rattle.flows.specs.Served.{HasServed};
 
 use crate::counts::Counts;
-use crate::report::{Ended, FlowReport};
 use controller::{Tally, Wire};
+use forwarding::{Ended, FlowReport};
 use rx_ring::{RxControllerEnd, RxDriverEnd, RxRing, meet_rx};
 use tx_ring::{TxControllerEnd, TxDriverEnd, TxRing, meet_tx};
 

@@ -1,7 +1,7 @@
 //! The frame counts of a driver's side.
 ghost use Rattle.std.specs.Prelude.{◌≡◌, ◌+◌, ◌≤◌};
-ghost use Rattle.driver.specs.declared.rx_driver.TheConstants.{MOST_BATCH};
-ghost use Rattle.forwarding.specs.Numbers.{NoneFalls};
+ghost use Rattle.limits.specs.declared.profile.TheConstants.{MOST_BATCH};
+ghost use Rattle.teams.specs.Numbers.{NoneFalls};
 ghost use Rattle.flows.specs.Counting.{counted, driven};
 
 use driver::MOST_BATCH;

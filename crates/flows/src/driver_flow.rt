@@ -1,6 +1,6 @@
 //! The driver's side of a flow.
 ghost use Rattle.std.specs.Prelude.{◌≡◌, ◌+◌, ◌<◌, ◌≤◌, ◌↔◌, true, [], length, IsSome, IfSome};
-ghost use Rattle.driver.specs.declared.rx_driver.TheConstants.{MOST_BATCH};
+ghost use Rattle.limits.specs.declared.profile.TheConstants.{MOST_BATCH};
 ghost use Rattle.limits.specs.declared.profile.TheConstants.{MOST_RS_EVERY};
 ghost use Rattle.shared_ring.specs.Calls.{IsFreshDriver};
 ghost use Rattle.pool.specs.Owned.{IsOf};

@@ -1,6 +1,6 @@
 //! Moving a flow's buffers between its stash and the pool.
 ghost use Rattle.std.specs.Prelude.{◌≡◌, ◌≤◌, [], ◌++◌, length};
-ghost use Rattle.driver.specs.declared.rx_driver.TheConstants.{MOST_BATCH};
+ghost use Rattle.limits.specs.declared.profile.TheConstants.{MOST_BATCH};
 ghost use Rattle.driver.specs.receive.Returns.{numbers_of};
 ghost use Rattle.driver.specs.transmit.Frames.{numbers_in};
 ghost use Rattle.pool.specs.Owned.{IsOf};

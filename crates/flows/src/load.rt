@@ -2,14 +2,14 @@
 ghost use Rattle.std.specs.Prelude.{◌≡◌, ◌<◌, ◌≤◌, true, [], length, map, IfOk, IfErr};
 ghost use Rattle.ring_model.specs.declared.states.DriverState.TheVariants.{Stopping};
 ghost use Rattle.buffer_pool.specs.Packed.{bytes_of};
-ghost use Rattle.driver.specs.declared.rx_driver.TheConstants.{MOST_BATCH};
+ghost use Rattle.limits.specs.declared.profile.TheConstants.{MOST_BATCH};
 ghost use Rattle.ring_model.specs.shared.Handshakes.{is_on};
 ghost use Rattle.rx_ring.specs.Ends as receive;
 ghost use Rattle.tx_ring.specs.Ends as transmit;
 ghost use Rattle.refusals.specs.declared.errors.ForwardError.TheVariants.{Gate as GateRefused};
-ghost use Rattle.forwarding.specs.declared.gate.Who.TheVariants as who;
-ghost use Rattle.forwarding.specs.Gates.{MayRefuse};
-ghost use Rattle.forwarding.specs.Numbers.{NoneFalls};
+ghost use Rattle.teams.specs.declared.gate.Who.TheVariants as who;
+ghost use Rattle.teams.specs.Gates.{MayRefuse};
+ghost use Rattle.teams.specs.Numbers.{NoneFalls};
 ghost use Rattle.flows.specs.Counting.{driven};
 ghost use Rattle.flows.specs.Driven.{IsLoaded, KnowsAsBefore, Relayed, RxAsBefore, TxAsBefore, driving_of};
 

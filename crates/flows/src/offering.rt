@@ -1,12 +1,12 @@
 //! The receive queue of a flow, as its controller serves it.
 ghost use Rattle.std.specs.Prelude.{◌≡◌, ◌<◌, ◌≤◌, All, length, None, IfErr};
 ghost use Rattle.limits.specs.declared.profile.TheConstants.{MOST_SCRIPT_FRAMES};
-ghost use Rattle.controller.specs.FillSize.{IsFillSize};
+ghost use Rattle.limits.specs.FillSize.{IsFillSize};
 ghost use Rattle.controller.specs.Tallying.{AddsUp, nothing};
 ghost use Rattle.rx_ring.specs.Calls.{IsFreshController};
 ghost use Rattle.rx_ring.specs.Ends.{held};
-ghost use Rattle.forwarding.specs.Gates.{Met};
-ghost use Rattle.forwarding.specs.Numbers.{NoneFalls};
+ghost use Rattle.teams.specs.Gates.{Met};
+ghost use Rattle.teams.specs.Numbers.{NoneFalls};
 ghost use Rattle.flows.specs.Counting.{offered};
 ghost use Rattle.flows.specs.Keys.{frames_at};
 ghost use Rattle.flows.specs.Served.{HasOffered};

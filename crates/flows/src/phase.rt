@@ -2,7 +2,7 @@
 ghost use Rattle.std.specs.Prelude.{◌≡◌, ◌↔◌, IsTrue};
 ghost use Rattle.flows.specs.Driven.{is_over, without_turns};
 
-use crate::report::Ended;
+use forwarding::Ended;
 
 /// How a flow ended, and how many segments were left in its queues when their disablings were answered.
 #[derive(Clone, Copy, Debug, PartialEq, Eq)]

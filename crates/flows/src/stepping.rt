@@ -1,7 +1,7 @@
 //! A turn of a driver's side, phase by phase.
 ghost use Rattle.std.specs.Prelude.{◌≡◌, [], IfOk, IfErr, OnErr};
-ghost use Rattle.forwarding.specs.Gates.{Met};
-ghost use Rattle.forwarding.specs.Numbers.{NoneFalls};
+ghost use Rattle.teams.specs.Gates.{Met};
+ghost use Rattle.teams.specs.Numbers.{NoneFalls};
 ghost use Rattle.flows.specs.Counting.{driven};
 ghost use Rattle.flows.specs.declared.phase.Phase.TheVariants as phase;
 ghost use Rattle.flows.specs.Driven.{GoesTo, IsLoaded, IsRelaying, driving_of, relaying};
@@ -11,9 +11,8 @@ use crate::disabling::{finish_rx, finish_tx};
 use crate::holding::give_stash;
 use crate::load::{Load, Task};
 use crate::phase::{Left, Phase};
-use crate::report::Ended;
 use driver::{MOST_BATCH, QueueDriver};
-use forwarding::{ForwardError, Gate};
+use forwarding::{Ended, ForwardError, Gate};
 use std::sync::Wait;
 
 impl Load {

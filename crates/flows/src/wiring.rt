@@ -4,7 +4,7 @@ ghost use Rattle.tx_ring.specs.Ends.{held, sent};
 ghost use Rattle.ring_model.specs.shared.Frames.{frames};
 ghost use Rattle.ring_model.specs.transmit.Ring.{carried};
 ghost use Rattle.shared_ring.specs.Calls.{IsFreshController};
-ghost use Rattle.forwarding.specs.Gates.{Met};
+ghost use Rattle.teams.specs.Gates.{Met};
 
 use crate::service::Service;
 use controller::{Turn, TxController, Wire};

@@ -7,7 +7,7 @@ use Rattle.std.specs.List.{AllZip}
 use Rattle.std.specs.Prelude.{slice_index_or}
 use Rattle.flows.specs.Keys.{ControllerKey, DriverKey, Plan}
 use Rattle.flows.specs.Reports.{IsReport}
-use Rattle.flows.specs.declared.report.FlowReport.{FlowReport}
+use Rattle.forwarding.specs.declared.report.FlowReport.{FlowReport}
 use Rattle.pool.specs.Owned.{Pooled}
 use Rattle.wire_script.specs.Frame.{Frame}
 use Rattle.forwarder.specs.Plans.{AreAllSides, AreOfLine, AreOfLines, AreReports}

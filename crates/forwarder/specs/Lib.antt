@@ -1,4 +1,3 @@
-pub mod Configs
 pub mod Flows
 pub mod Lines
 pub mod Plans

@@ -2,10 +2,10 @@
 use Rattle.std.specs.Prelude.{◌≡◌, ℕ, ◌<◌, List, slice_index_or}
 use Rattle.flows.specs.Keys.{ControllerKey, DriverKey, Plan, frames_at, plan_of}
 use Rattle.flows.specs.Reports.{IsReport}
-use Rattle.flows.specs.declared.report.FlowReport.{FlowReport}
+use Rattle.forwarding.specs.declared.report.FlowReport.{FlowReport}
 use Rattle.pool.specs.Owned.{Pooled}
 use Rattle.wire_script.specs.Frame.{Frame}
-use Rattle.forwarder.specs.declared.config.Config.{Config}
+use Rattle.forward_config.specs.declared.config.Config.{Config}
 use Rattle.forwarder.specs.declared.lines.Line.{Line}
 use Rattle.forwarder.specs.Flows.{places_of}
 

@@ -3,7 +3,7 @@ use Rattle.std.specs.Prelude.{◌≡◌, List, map}
 use Rattle.counters.specs.declared.flows.FlowCells.{FlowCells}
 use Rattle.counters.specs.declared.flows.FlowPens.{FlowPens}
 use Rattle.flows.specs.Counting.{driven_in, offered_in}
-use Rattle.flows.specs.declared.report.FlowReport.{FlowReport}
+use Rattle.forwarding.specs.declared.report.FlowReport.{FlowReport}
 use Rattle.forwarder.specs.Watching.{ArePensOf, driven_shown, offered_shown}
 
 -- Each pen is that of the cell at its place. The numbers that it last wrote are those of the report at that place.

@@ -1,6 +1,6 @@
 -- The views of watched flows in contracts.
 use Rattle.std.specs.Prelude.{◌≡◌, ℕ, List, [], ◌∷◌, map}
-use Rattle.cells.specs.Watching.{Knowing}
+use Rattle.counters.specs.Watching.{Knowing}
 use Rattle.counters.specs.declared.flows.FlowCells.{FlowCells}
 use Rattle.counters.specs.declared.flows.FlowPens.{FlowPens}
 

@@ -7,18 +7,18 @@ ghost use Rattle.refusals.specs.declared.errors.ForwardError.TheVariants.{Memory
 ghost use Rattle.pool.specs.declared.hand.TheConstants.{WHOLE_SHARE};
 ghost use Rattle.pool.specs.Owned.{IsOf};
 ghost use Rattle.flows.specs.Reports.{IsReport};
-ghost use Rattle.forwarder.specs.Configs.{FitsIn};
+ghost use Rattle.forward_config.specs.Configs.{FitsIn};
 ghost use Rattle.forwarder.specs.Plans.{plan};
 ghost use Rattle.forwarder.specs.Shown.{ShowReports};
 ghost use Rattle.teams.specs.Refusals.{Halted};
 
-use crate::config::Config;
 use crate::index::Index;
 use crate::lines::make_lines;
 use crate::report::Report;
 use crate::running::{Job, Watch, run_flows};
 use crate::stopping::close_all;
 use counters::{FlowCells, FlowPens};
+use forward_config::Config;
 use forwarding::{ForwardError, Gate};
 use pool::{Pool, PoolPass};
 use std::alloc::Global;

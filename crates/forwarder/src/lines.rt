@@ -3,10 +3,10 @@ ghost use Rattle.std.specs.Prelude.{◌≡◌, ℕ, ◌*◌, ◌<◌, IfOk, IfEr
 ghost use Rattle.limits.specs.RingLength.{IsRingLength};
 ghost use Rattle.limits.specs.declared.profile.TheConstants.{PORTS};
 ghost use Rattle.refusals.specs.declared.errors.ForwardError.TheVariants.{Memory};
-ghost use Rattle.forwarder.specs.Configs.{HasLawfulQueues};
+ghost use Rattle.forward_config.specs.Configs.{HasLawfulQueues};
 ghost use Rattle.forwarder.specs.Lines.{AreEnds};
 
-use crate::config::Config;
+use forward_config::Config;
 use forwarding::ForwardError;
 use limits::PORTS;
 use rx_ring::{RxControllerEnd, RxDriverEnd, RxRing};

@@ -5,16 +5,16 @@ ghost use Rattle.flows.specs.Counting.{none};
 ghost use Rattle.limits.specs.declared.profile.TheConstants.{MOST_PAIRS, PORTS};
 ghost use Rattle.refusals.specs.declared.errors.ForwardError.TheVariants.{Memory};
 ghost use Rattle.pool.specs.Owned.{IsOf};
-ghost use Rattle.forwarder.specs.Configs.{IsLawful};
+ghost use Rattle.forward_config.specs.Configs.{IsLawful};
 ghost use Rattle.forwarder.specs.Flows.{places_of};
 ghost use Rattle.forwarder.specs.Lines.{AreEnds, AreReady};
 ghost use Rattle.forwarder.specs.Plans.{AreSides, AreAllSides, plan};
 
-use crate::config::Config;
 use crate::index::Index;
 use crate::lines::{Line, LineEnds};
 use crate::starting::start_flow;
 use flows::{ControllerFlow, DriverFlow};
+use forward_config::Config;
 use forwarding::ForwardError;
 use pool::{Pool, PoolPass};
 use std::alloc::Global;

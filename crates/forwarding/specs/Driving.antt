@@ -9,7 +9,7 @@ use Rattle.ring_model.specs.shared.Segments.{piece_of}
 use Rattle.ring_model.specs.transmit.Ring.{carried}
 use Rattle.rx_ring.specs.Ends as receive
 use Rattle.tx_ring.specs.Ends as transmit
-use Rattle.driver.specs.declared.rx_driver.TheConstants.{MOST_BATCH}
+use Rattle.limits.specs.declared.profile.TheConstants.{MOST_BATCH}
 use Rattle.driver.specs.receive.Chains.{IsTaken}
 use Rattle.driver.specs.receive.Receiver.{Receiver, hands}
 use Rattle.driver.specs.receive.Batches as received

@@ -2,19 +2,19 @@
 ghost use Rattle.std.specs.Prelude.{◌≡◌, ◌≤◌, true, All, length, IfErr, OnErr, IfOk};
 ghost use Rattle.ring_model.specs.shared.Handshakes.{is_live};
 ghost use Rattle.rx_ring.specs.Ends as receive;
-ghost use Rattle.driver.specs.declared.rx_driver.TheConstants.{MOST_BATCH};
+ghost use Rattle.limits.specs.declared.profile.TheConstants.{MOST_BATCH};
 ghost use Rattle.driver.specs.receive.Chains.{IsTaken};
-ghost use Rattle.forwarding.specs.declared.gate.Who.TheVariants as who;
+ghost use Rattle.teams.specs.declared.gate.Who.TheVariants as who;
 ghost use Rattle.forwarding.specs.Driving.{CanDrive, Counted, Drove, HeldBack, Moved, Received, driving};
-ghost use Rattle.forwarding.specs.Gates.{MayRefuse};
+ghost use Rattle.teams.specs.Gates.{MayRefuse};
 
-use crate::gate::{Event, Gate, Who, admit};
 use crate::packets::touch_from;
 use arrayvec::ArrayVec;
 use buffer_pool::{Packet, Stash};
 use driver::{MOST_BATCH, RxDriver, TxDriver};
 use refusals::ForwardError;
 use rx_ring::RxRing;
+use teams::{Event, Gate, Who, admit};
 use tx_ring::TxRing;
 
 /// The frames of a turn.

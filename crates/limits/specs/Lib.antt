@@ -1,1 +1,2 @@
 pub mod RingLength
+pub mod FillSize

@@ -2,14 +2,17 @@
 //! Depends on no crate; every other crate takes its limits from here.
 //! The value of each limit is proved beside it, so a change takes two lines: the constant and its `prove!`.
 //!
-//! [`is_ring_length`] tests the number of descriptors of a ring.
+//! [`is_ring_length`] tests the number of descriptors of a ring, and [`is_fill_size`] the number of bytes to which buffers
+//! are filled.
 #![tactic(auto)]
 
+mod fill_size;
 mod profile;
 mod ring_length;
 
+pub use fill_size::is_fill_size;
 pub use profile::{
-    BUFFER_BYTES, FEWEST_BUFFERS, LEAST_FRAME, LEAST_RING, MOST_BUFFERS, MOST_FRAME, MOST_PAIRS,
-    MOST_RING, MOST_RS_EVERY, MOST_SCRIPT_FRAMES, MOST_SEGMENTS, PORTS,
+    BUFFER_BYTES, FEWEST_BUFFERS, LEAST_FRAME, LEAST_RING, MOST_BATCH, MOST_BUFFERS, MOST_FRAME,
+    MOST_PAIRS, MOST_RING, MOST_RS_EVERY, MOST_SCRIPT_FRAMES, MOST_SEGMENTS, PORTS,
 };
 pub use ring_length::is_ring_length;

@@ -51,6 +51,11 @@ pub const MOST_SEGMENTS: usize = 15;
 
 const _: () = prove!(MOST_SEGMENTS == 15);
 
+/// The maximum number of packets of a driver's batch, and of a list of packets.
+pub const MOST_BATCH: usize = 32;
+
+const _: () = prove!(MOST_BATCH == 32);
+
 /// The greatest report interval of a driver, in frames.
 pub const MOST_RS_EVERY: u16 = 4_096;
 

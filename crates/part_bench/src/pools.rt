@@ -6,7 +6,7 @@ mod timing;
 use crate::plan::each;
 use anyhow::Result;
 use lists::compared;
-use pool_uses::{BATCH, Job, Manner};
+use part_tests::{BATCH, Job, Manner};
 use std::alloc::Global;
 use std::rt::Clock;
 use std::sync::Wait;

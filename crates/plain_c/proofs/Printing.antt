@@ -1,7 +1,7 @@
 -- What the moves print, put at the beginning of a room.
 use Rattle.std.proofs.Common.{◌≡◌, ℕ, List, ◌++◌, length, drop, ap, ◌∙◌, subst}
 use Rattle.commands.specs.Replay.{HasPage}
-use Rattle.commands.specs.declared.replay.QueuePlan.{QueuePlan}
+use Rattle.requests.specs.declared.replay.QueuePlan.{QueuePlan}
 use Rattle.plain_c.specs.Moves.{Printed}
 
 pub printed_there : (plan known : QueuePlan) (text read before after bytes page : List ℕ) → known ≡ plan → read ≡ text → HasPage known read page → bytes ≡ page

@@ -2,11 +2,11 @@
 use Rattle.std.specs.Prelude.{◌≡◌, ℕ, ◌<◌, List, ◌++◌, length, drop, Option, Some, None, Bool, true, false}
 use Rattle.ring_model.specs.declared.states.Completion.{Completion}
 use Rattle.ring_model.specs.declared.states.Completion.TheVariants.{Status, Head}
-use Rattle.commands.specs.Refusals.{refusal_number, refused_line}
+use Rattle.requests.specs.Refusals.{refusal_number, refused_line}
 use Rattle.commands.specs.Replay.{HasPage, RefusesReplay}
-use Rattle.commands.specs.declared.refusal.Refusal.{Refusal}
-use Rattle.commands.specs.declared.replay.QueuePlan.{QueuePlan}
-use Rattle.commands.specs.declared.replay.TheConstants.{NOTES}
+use Rattle.requests.specs.declared.refusal.Refusal.{Refusal}
+use Rattle.requests.specs.declared.replay.QueuePlan.{QueuePlan}
+use Rattle.requests.specs.declared.replay.TheConstants.{NOTES}
 use Rattle.opaque.specs.Words.{is_set}
 use Rattle.plain_c.specs.declared.moves.Poll82599Plan.{Poll82599Plan}
 

@@ -1,6 +1,6 @@
 //! Lists of moves, made on the machines of queues.
 ghost use Rattle.std.specs.Prelude.{◌≡◌, ◌≢◌};
-ghost use Rattle.commands.specs.Refusals.{refused_line};
+ghost use Rattle.requests.specs.Refusals.{refused_line};
 ghost use Rattle.plain_c.specs.Moves.{IsRefused, Printed, TooSmall, line_of, plan_of};
 
 use commands::{NOTES, QueuePlan, Refusal, Shown, replay_text};

@@ -1,15 +1,15 @@
 //! The program `poll82599`: both sides of the 82599's descriptor rings, in one process.
 //!
-//! `main` passes the words and the three standard streams to `command_line::run`, standard error a second time for the
-//! progress of a run, and exits with the status that it returns. `command_line` parses the words, and `commands` runs
+//! `main` passes the words and the three standard streams to `program::run`, standard error a second time for the
+//! progress of a run, and exits with the status that it returns. `command_line` parses the words, and `program` runs
 //! the commands. If the reader of standard output has gone, the program ends quietly (`pipe`).
 #![tactic(auto)]
 
 mod pipe;
 
-use command_line::{MISUSED, run};
-use commands::{Refusal, refuse};
 use pipe::{Faults, GONE, Output};
+use program::{MISUSED, run};
+use requests::{Refusal, refuse};
 use std::cell::Cell;
 use std::io::{ErrorKind, IsTerminal, Write};
 use std::process::ExitCode;

@@ -6,10 +6,10 @@ use Rattle.std.proofs.lemmas.List.{append-nil, take_more}
 use Rattle.std.proofs.lemmas.List.Concat.{flat_map-append}
 use Rattle.std.proofs.lemmas.List.Elements.{All-get_or}
 use Rattle.std.specs.Prelude.{All}
-use Rattle.commands.specs.declared.replay.Shown.{Shown}
-use Rattle.coverage.specs.Lists.{Meets}
-use Rattle.coverage.specs.declared.lists.CoverList.{CoverList}
-use Rattle.coverage.specs.declared.tried.Scope.{Scope}
+use Rattle.requests.specs.declared.replay.Shown.{Shown}
+use Rattle.schedules.specs.Lists.{Meets}
+use Rattle.schedules.specs.declared.covering.lists.CoverList.{CoverList}
+use Rattle.schedules.specs.declared.covering.tried.Scope.{Scope}
 use Rattle.schedule_command.specs.Lists.{joined}
 use Rattle.schedule_command.specs.Covers.{AreTexts, IsText, PrintsLists}
 

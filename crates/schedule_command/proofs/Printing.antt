@@ -7,11 +7,11 @@ use Rattle.std.proofs.lemmas.List.{append-nil}
 use Rattle.std.proofs.lemmas.List.Concat.{flat_map-append}
 use Rattle.std.proofs.lemmas.List.Elements.{All-append, All-cons, All-nil}
 use Rattle.commands.specs.Replay.{HasPage}
-use Rattle.commands.specs.declared.replay.Shown.{Shown}
+use Rattle.requests.specs.declared.replay.Shown.{Shown}
 use Rattle.schedules.specs.Drawing.{IsDrawn}
 use Rattle.schedules.specs.declared.drawing.Drawn.{Drawn}
 use Rattle.schedule_command.specs.Lists.{AreShown, Follows, IsPrinted, IsShown, PrintsLists, joined, list_text, queues_of}
-use Rattle.schedule_command.specs.declared.request.ScheduleRequest.{ScheduleRequest}
+use Rattle.requests.specs.declared.lists.ScheduleRequest.{ScheduleRequest}
 
 -- a list that is drawn as requested is printed alone, or with what `replay` prints for it
 pub printed-alone : (r : ScheduleRequest) (list : List Drawn) (text : List ℕ) → r.expect ≡ None → IsDrawn r.plan list → text ≡ list_text list → IsPrinted r text

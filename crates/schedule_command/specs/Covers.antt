@@ -5,19 +5,19 @@ use Rattle.std.specs.Io.KnownBytes.{Appends}
 use Rattle.ring_machine.specs.declared.moves.Move.{Move}
 use Rattle.ring_machine.specs.text.Moves.{text_of}
 use Rattle.commands.specs.Replay.{RefusesReplay}
-use Rattle.commands.specs.declared.answering.TheConstants.{DONE, REFUSED}
-use Rattle.commands.specs.declared.refusal.Refusal.{Refusal}
-use Rattle.commands.specs.declared.refusal.Refusal.TheVariants as refusal
-use Rattle.commands.specs.declared.replay.QueuePlan.{QueuePlan}
-use Rattle.commands.specs.declared.replay.Shown.{Shown}
-use Rattle.coverage.specs.Lists.{Meets}
-use Rattle.coverage.specs.Pairs.{pair_text}
-use Rattle.coverage.specs.Tried.{completion_of}
-use Rattle.coverage.specs.declared.lists.CoverList.{CoverList}
-use Rattle.coverage.specs.declared.tried.Scope.{Scope}
-use Rattle.coverage.specs.declared.tried.Side.TheVariants as side
+use Rattle.requests.specs.declared.answers.TheConstants.{DONE, REFUSED}
+use Rattle.requests.specs.declared.refusal.Refusal.{Refusal}
+use Rattle.requests.specs.declared.refusal.Refusal.TheVariants as refusal
+use Rattle.requests.specs.declared.replay.QueuePlan.{QueuePlan}
+use Rattle.requests.specs.declared.replay.Shown.{Shown}
+use Rattle.schedules.specs.Lists.{Meets}
+use Rattle.schedules.specs.Pairs.{pair_text}
+use Rattle.schedules.specs.Tried.{completion_of}
+use Rattle.schedules.specs.declared.covering.lists.CoverList.{CoverList}
+use Rattle.schedules.specs.declared.covering.tried.Scope.{Scope}
+use Rattle.schedules.specs.declared.covering.tried.Side.TheVariants as side
 use Rattle.schedule_command.specs.Lists.{Follows, joined}
-use Rattle.schedule_command.specs.declared.covering.request.CoverRequest.{CoverRequest}
+use Rattle.requests.specs.declared.covers.CoverRequest.{CoverRequest}
 
 -- The queues with which a list begins, as `replay` makes them, and the form of its output.
 abbrev pub queues_of : Scope → Shown → QueuePlan

@@ -6,16 +6,18 @@ use Rattle.ring_machine.specs.Queues.{AreQueues}
 use Rattle.refusals.specs.declared.errors.MachineError.TheVariants.{RingLength, Memory as NoQueues}
 use Rattle.ring_machine.specs.text.Moves.{text_of}
 use Rattle.commands.specs.Page.{page_of}
-use Rattle.commands.specs.Replay.{HasPage, RefusesReplay, is_page}
-use Rattle.commands.specs.declared.answering.TheConstants.{DONE, REFUSED}
-use Rattle.commands.specs.declared.refusal.Refusal.{Refusal}
-use Rattle.commands.specs.declared.refusal.Refusal.TheVariants as refusal
-use Rattle.commands.specs.declared.replay.QueuePlan.{QueuePlan}
-use Rattle.commands.specs.declared.replay.Shown.{Shown}
-use Rattle.commands.specs.declared.replay.TheConstants.{PAGE_DATA}
+use Rattle.commands.specs.Replay.{HasPage, RefusesReplay}
+use Rattle.requests.specs.Replaying.{is_page}
+use Rattle.requests.specs.declared.answers.TheConstants.{DONE, REFUSED}
+use Rattle.requests.specs.declared.refusal.Refusal.{Refusal}
+use Rattle.requests.specs.declared.refusal.Refusal.TheVariants as refusal
+use Rattle.requests.specs.Lists.{shows_page}
+use Rattle.requests.specs.declared.replay.QueuePlan.{QueuePlan}
+use Rattle.requests.specs.declared.replay.Shown.{Shown}
+use Rattle.requests.specs.declared.replay.TheConstants.{PAGE_DATA}
 use Rattle.schedules.specs.Drawing.{IsDrawn}
 use Rattle.schedules.specs.declared.drawing.Drawn.{Drawn}
-use Rattle.schedule_command.specs.declared.request.ScheduleRequest.{ScheduleRequest}
+use Rattle.requests.specs.declared.lists.ScheduleRequest.{ScheduleRequest}
 
 -- The queues that the lists are drawn for, as `replay` makes them, and the form of its output.
 abbrev pub queues_of : ScheduleRequest → Shown → QueuePlan
@@ -82,11 +84,6 @@ pub record PrintsPage (r : ScheduleRequest) (old new : Option (List ℕ)) : Type
   pub content : List ℕ
   pub shown : AreShown r content
   pub appends : Appends old new (page_of content)
-
--- Whether the lists are shown as a page.
-abbrev pub shows_page : Option Shown → Bool
-shows_page None = false
-shows_page (Some form) = is_page form.pictures
 
 abbrev pub PrintsBy : Bool → ScheduleRequest → Option (List ℕ) → Option (List ℕ) → Type 0
 PrintsBy false = PrintsLists

@@ -2,13 +2,13 @@
 ghost use Rattle.std.specs.Prelude.{◌≡◌, ◌≤◌, ◌⊎◌, IfErr, IfOk, IsErr, OnOk};
 ghost use Rattle.std.specs.Io.KnownBytes.{Keeps};
 ghost use Rattle.std.specs.String.{string_bytes};
-ghost use Rattle.commands.specs.declared.answering.TheConstants.{DONE, REFUSED};
+ghost use Rattle.requests.specs.declared.answers.TheConstants.{DONE, REFUSED};
 ghost use Rattle.ring_machine.specs.Queues.{AreQueues};
 ghost use Rattle.schedule_command.specs.Lists.{AreShown, NotPrinted, Prints, PrintsLists, PrintsPage, Refuses};
 
 use crate::listing::{content_of, list_of};
-use crate::request::ScheduleRequest;
-use commands::{DONE, Refusal, explain_queues, page_with, print, refuse_explained};
+use commands::page_with;
+use requests::{DONE, Refusal, ScheduleRequest, explain_queues, print, refuse_explained};
 use ring_machine::MachineError;
 use std::alloc::Global;
 use std::io::Write;

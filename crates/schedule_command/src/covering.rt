@@ -8,8 +8,7 @@
 
 mod answering;
 mod listing;
-mod request;
 mod searching;
 
 pub use answering::{answer, perform};
-pub use request::CoverRequest;
+pub use requests::CoverRequest;

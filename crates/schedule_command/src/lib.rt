@@ -11,7 +11,6 @@
 mod answering;
 pub mod covering;
 mod listing;
-mod request;
 
 pub use answering::{answer, perform};
-pub use request::ScheduleRequest;
+pub use requests::ScheduleRequest;

@@ -4,8 +4,8 @@ ghost use Rattle.std.specs.String.{string_bytes};
 ghost use Rattle.ring_machine.specs.Queues.{AreQueues};
 ghost use Rattle.schedule_command.specs.Lists.{IsPrinted, IsShown, NotPrinted, list_text, queues_of};
 
-use crate::request::ScheduleRequest;
-use commands::{PAGE_DATA, QueuePlan, Refusal, Shown, replay_text};
+use commands::replay_text;
+use requests::{PAGE_DATA, QueuePlan, Refusal, ScheduleRequest, Shown};
 use schedules::{Drawn, draw};
 use std::alloc::{AllocError, Global};
 

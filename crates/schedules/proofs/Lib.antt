@@ -1,2 +1,3 @@
 mod Foretelling
 mod Fields
+mod Meeting

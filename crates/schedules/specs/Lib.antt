@@ -1,2 +1,6 @@
 pub mod Drawing
 pub mod Thresholds
+pub mod Lists
+pub mod Pairs
+pub mod Told
+pub mod Tried

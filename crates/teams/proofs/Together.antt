@@ -1,12 +1,12 @@
 -- How work ended together.
 use Rattle.std.proofs.Common.{Bool}
-use Rattle.forwarding.specs.declared.gate.Who.{Who}
-use Rattle.forwarding.specs.declared.gate.Event.{Event}
+use Rattle.teams.specs.declared.gate.Who.{Who}
+use Rattle.teams.specs.declared.gate.Event.{Event}
 use Rattle.teams.specs.declared.ending.Ending.{Ending}
 use Rattle.teams.specs.declared.ending.Ending.TheVariants.{Done, Refused, Stopped}
 use Rattle.refusals.specs.declared.errors.ForwardError.{ForwardError}
 use Rattle.refusals.specs.declared.errors.ForwardError.TheVariants.{Memory, Gate, Thread, Config}
-use Rattle.forwarding.specs.Gates.{Met}
+use Rattle.teams.specs.Gates.{Met}
 use Rattle.teams.specs.Refusals.{Halted}
 use Rattle.teams.specs.Endings.{IsSo, worse}
 

@@ -1,8 +1,8 @@
 -- How work ends.
 use Rattle.std.specs.Prelude.{◌≡◌, ◌<◌, ℕ, Bool, true}
 use Rattle.atomic_table.specs.Seated.{TableId}
-use Rattle.forwarding.specs.declared.gate.Who.{Who}
-use Rattle.forwarding.specs.declared.gate.Event.{Event}
+use Rattle.teams.specs.declared.gate.Who.{Who}
+use Rattle.teams.specs.declared.gate.Event.{Event}
 use Rattle.teams.specs.declared.ending.Ending.{Ending}
 use Rattle.teams.specs.declared.ending.Ending.TheVariants.{Done, Refused, Stopped}
 use Rattle.teams.specs.Refusals.{Halted}

@@ -1,3 +1,5 @@
+pub mod Gates
+pub mod Numbers
 pub mod Refusals
 pub mod Endings
 pub mod Hands

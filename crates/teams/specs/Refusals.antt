@@ -1,10 +1,10 @@
 -- The refusals of workers.
 use Rattle.std.specs.Prelude.{Bool}
-use Rattle.forwarding.specs.declared.gate.Who.{Who}
-use Rattle.forwarding.specs.declared.gate.Event.{Event}
+use Rattle.teams.specs.declared.gate.Who.{Who}
+use Rattle.teams.specs.declared.gate.Event.{Event}
 use Rattle.refusals.specs.declared.errors.ForwardError.{ForwardError}
 use Rattle.refusals.specs.declared.errors.ForwardError.TheVariants.{Memory, Gate, Thread, Config}
-use Rattle.forwarding.specs.Gates.{CanRefuse}
+use Rattle.teams.specs.Gates.{CanRefuse}
 
 -- The refusals that can happen: lack of memory, a gate that can refuse, or a thread that could not be started. A
 -- configuration is checked before.

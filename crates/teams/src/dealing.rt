@@ -3,7 +3,7 @@ ghost use Rattle.std.specs.Prelude.{◌≡◌, ◌+◌, ◌<◌, ◌≤◌, true
 ghost use Rattle.teams.specs.Dealing.{IsDealt, Passes};
 ghost use Rattle.teams.specs.Hands.{hand_keys, AllOver};
 
-use forwarding::Flow;
+use crate::flow::Flow;
 use std::alloc::{AllocError, Global};
 
 /// Deals items to hands in turn: of `count` hands, item `f` goes to hand `f mod count`. Each hand keeps the order. The

@@ -2,7 +2,7 @@
 ghost use Rattle.std.specs.Prelude.{◌≡◌};
 ghost use Rattle.teams.specs.Endings.{worse};
 
-use forwarding::ForwardError;
+use refusals::ForwardError;
 
 /// How work ended.
 #[derive(Clone, Copy, Debug, PartialEq, Eq)]

@@ -4,10 +4,12 @@ ghost use Rattle.teams.specs.Passes.{first_pass};
 ghost use Rattle.teams.specs.Hands.{hand_keys, AllOver};
 ghost use Rattle.teams.specs.Refusals.{Halted};
 
+use crate::flow::Flow;
+use crate::gate::Gate;
 use crate::standing::Standing;
 use crate::team::{Begun, join_each, start};
 use crate::word::{StopPass, StopWord};
-use forwarding::{Flow, ForwardError, Gate};
+use refusals::ForwardError;
 use std::alloc::{AllocError, Global};
 use std::sync::Wait;
 use std::thread;

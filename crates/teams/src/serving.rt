@@ -4,9 +4,10 @@ ghost use Rattle.teams.specs.declared.ending.Ending.TheVariants.{Done};
 ghost use Rattle.teams.specs.declared.serving.Round.TheVariants.{Busy, Idle, Ended};
 ghost use Rattle.teams.specs.Endings.{IsSo};
 
+use crate::flow::{Flow, Progress};
+use crate::gate::Gate;
 use crate::standing::Standing;
 use crate::word::StopWord;
-use forwarding::{Flow, Gate, Progress};
 use std::sync::Wait;
 use std::{hint, thread};
 

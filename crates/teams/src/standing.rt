@@ -6,7 +6,7 @@ ghost use Rattle.teams.specs.Endings.{stood, worse};
 
 use crate::ending::Ending;
 use crate::word::{StopPass, StopWord};
-use forwarding::ForwardError;
+use refusals::ForwardError;
 use std::marker::Model;
 use std::sync::Wait;
 

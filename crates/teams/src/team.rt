@@ -4,10 +4,12 @@ ghost use Rattle.teams.specs.declared.ending.Ending.TheVariants.{Done};
 ghost use Rattle.teams.specs.Hands.{given_by, hand_keys, AllOver};
 ghost use Rattle.teams.specs.Endings.{IsEnded, IsSo};
 
+use crate::flow::Flow;
+use crate::gate::Gate;
 use crate::serving::{Served, serve};
 use crate::standing::Standing;
 use crate::word::StopWord;
-use forwarding::{Flow, ForwardError, Gate};
+use refusals::ForwardError;
 use std::snapshot::Snapshot;
 use std::sync::Wait;
 use std::thread::{Promise, PromisedHandle, Scope, Threads};

@@ -1,7 +1,7 @@
 //! Runs of the program, and their results.
 
 use crate::tests::streams::{Input, Output, Screen};
-use command_line::run;
+use program::run;
 use std::alloc::{AllocError, Global};
 use std::process::Abort;
 use std::rt::Files;

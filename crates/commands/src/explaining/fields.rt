@@ -1,8 +1,8 @@
 //! Names the field of a descriptor that breaks the profile, with its bits as the datasheet numbers them.
 
-use crate::decode::Form;
 use descriptor::DescError;
 use limits::{BUFFER_BYTES, LEAST_FRAME, MOST_FRAME};
+use requests::Form;
 use std::alloc::AllocError;
 
 /// The numbers that the profile allows in a field.

@@ -6,9 +6,9 @@ ghost use Rattle.driver.specs.receive.Chains.{IsRest};
 ghost use Rattle.driver.specs.receive.Exchanges.{posting, in_place, PolledAll, IsFilled};
 ghost use Rattle.driver.specs.receive.Batches.{at, Polled, Stopped, batch_of, Filled};
 
-use super::MOST_BATCH;
 use arrayvec::ArrayVec;
 use buffer_pool::{Packet, Stash};
+use limits::MOST_BATCH;
 use rx_ring::{DriverEnd, Poll, RxDriverEnd, RxRing};
 use std::mem;
 

@@ -10,10 +10,9 @@ ghost use Rattle.tx_ring.specs.Ends.{driver_size, posted, returned, driver_state
 ghost use Rattle.driver.specs.transmit.Frames.{frame_of, frames_of, segment_count, NeedsMore, IsTooLong};
 ghost use Rattle.driver.specs.transmit.Going.{PostedAll};
 
-use crate::rx_driver::MOST_BATCH;
 use arrayvec::ArrayVec;
 use buffer_pool::{Buf, Packet};
-use limits::BUFFER_BYTES;
+use limits::{BUFFER_BYTES, MOST_BATCH};
 use ring_model::place_after;
 use tx_ring::{DriverEnd, TxDriverEnd, TxRing};
 

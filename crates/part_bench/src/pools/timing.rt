@@ -1,7 +1,7 @@
 //! Makes a pool, and times its threads.
 use anyhow::Result;
+use part_tests::{Job, in_two, share_out, work};
 use pool::{Pool, WHOLE_SHARE};
-use pool_uses::{Job, in_two, share_out, work};
 use std::alloc::Global;
 use std::rt::Clock;
 use std::sync::Wait;

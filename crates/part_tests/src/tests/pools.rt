@@ -1,9 +1,9 @@
 ghost use Rattle.pool.specs.Owned.{IsOf};
 
 use crate::tests::wanted::{holds, same};
+use crate::{Job, Manner, share_out};
 use buffer_pool::{PoolError, Stash};
 use pool::{Pool, PoolPass};
-use pool_uses::{Job, Manner, share_out};
 use std::alloc::Global;
 use std::process::Abort;
 use std::sync::Wait;

@@ -3,7 +3,7 @@ use Rattle.std.specs.Prelude.{◌≡◌, ℕ, zero, suc, ◌+◌, ◌*◌, ◌<�
 use Rattle.buffer_pool.specs.Buffer.{Buffer, buffer}
 use Rattle.buffer_pool.specs.Packed.{IsPacket, bytes_of, shape_of}
 use Rattle.buffer_pool.specs.declared.stash.TheConstants.{STASH_BUFFERS}
-use Rattle.driver.specs.declared.rx_driver.TheConstants.{MOST_BATCH}
+use Rattle.limits.specs.declared.profile.TheConstants.{MOST_BATCH}
 use Rattle.limits.specs.declared.profile.TheConstants.{BUFFER_BYTES}
 use Rattle.ring_model.specs.shared.Frames.{Bytes, HasFrameLength}
 use Rattle.poll82599_c.specs.Stashes.{AreBuffers}

@@ -12,7 +12,7 @@ use Rattle.rx_ring.specs.Calls.{GoneOver, IsTold, told_left}
 use Rattle.rx_ring.specs.Ends.{driver_grown, driver_size, driver_state, stored, taken}
 use Rattle.rx_ring.specs.Form.{rx}
 use Rattle.rx_ring.specs.Meeting.{MadeSeats, ledger_of, stored_now}
-use Rattle.driver.specs.declared.rx_driver.TheConstants.{MOST_BATCH}
+use Rattle.limits.specs.declared.profile.TheConstants.{MOST_BATCH}
 use Rattle.driver.specs.receive.Batches.{Batched, IsFilled}
 use Rattle.driver.specs.receive.Receiver.{Receiver, hands}
 use Rattle.driver.specs.receive.Returns.{GaveBack, IsEmptied}

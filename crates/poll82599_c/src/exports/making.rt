@@ -1,7 +1,7 @@
 //! The exports that make a ring, a queue or a worker's packets. Any thread may call them.
 ghost use Rattle.std.specs.Prelude.{◌≡◌, ◌≢◌, ◌<◌, ◌⊎◌, pos};
 ghost use Rattle.limits.specs.RingLength.{IsRingLength};
-ghost use Rattle.controller.specs.FillSize.{IsFillSize};
+ghost use Rattle.limits.specs.FillSize.{IsFillSize};
 ghost use Rattle.ring_model.specs.declared.states.Completion.TheVariants as by;
 ghost use Rattle.opaque.specs.Words.{is_set};
 ghost use Rattle.poll82599_c.specs.Handles.{as_packets, as_rx_controller, as_rx_device, as_rx_driver, as_rx_queue, as_tx_controller, as_tx_device, as_tx_driver, as_tx_queue};

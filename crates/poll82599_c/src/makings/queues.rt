@@ -1,7 +1,7 @@
 //! The driver and the device of a new queue.
 ghost use Rattle.std.specs.Prelude.{◌≡◌, ◌≢◌, ◌<◌, ◌⊎◌, Some, IfErr, IfOk};
 ghost use Rattle.limits.specs.RingLength.{IsRingLength};
-ghost use Rattle.controller.specs.FillSize.{IsFillSize};
+ghost use Rattle.limits.specs.FillSize.{IsFillSize};
 ghost use Rattle.poll82599_c.specs.Handles.{as_rx_device, as_rx_queue, as_tx_device, as_tx_queue};
 ghost use Rattle.poll82599_c.specs.batches.Receiving as rx_queue;
 ghost use Rattle.poll82599_c.specs.batches.Transmitting as tx_queue;

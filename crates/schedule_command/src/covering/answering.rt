@@ -1,15 +1,14 @@
 //! Serving a request.
 ghost use Rattle.std.specs.Prelude.{◌≡◌, IfErr, OnOk, All};
 ghost use Rattle.std.specs.Io.KnownBytes.{Keeps};
-ghost use Rattle.commands.specs.declared.answering.TheConstants.{DONE};
-ghost use Rattle.coverage.specs.Lists.{Meets};
+ghost use Rattle.requests.specs.declared.answers.TheConstants.{DONE};
+ghost use Rattle.schedules.specs.Lists.{Meets};
 ghost use Rattle.schedule_command.specs.Covers.{EndsCover, Prints, PrintsCover, PrintsLists, Refuses, RefusesCover};
 
 use crate::covering::listing::list_of;
-use crate::covering::request::CoverRequest;
 use crate::covering::searching::search_of;
-use commands::{DONE, Refusal, Shown, print, refuse_explained};
-use coverage::{CoverList, Scope, Side};
+use requests::{CoverRequest, DONE, Refusal, Shown, print, refuse_explained};
+use schedules::covering::{CoverList, Scope, Side};
 use std::alloc::Global;
 use std::io::Write;
 

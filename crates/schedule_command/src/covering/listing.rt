@@ -4,9 +4,10 @@ ghost use Rattle.std.specs.String.{string_bytes};
 ghost use Rattle.schedule_command.specs.Covers.{IsText, IsUnreplayed, NotPrinted, list_text, move_lines, queues_of};
 ghost use Rattle.schedule_command.specs.Lists.{Follows};
 
-use commands::{QueuePlan, Refusal, Shown, replay_text};
-use coverage::{CoverList, Scope};
+use commands::replay_text;
+use requests::{QueuePlan, Refusal, Shown};
 use ring_machine::Move;
+use schedules::covering::{CoverList, Scope};
 use std::alloc::{AllocError, Global};
 
 // The queues with which a list begins.

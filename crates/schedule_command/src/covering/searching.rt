@@ -1,7 +1,7 @@
 //! A complete search, with its progress.
 ghost use Rattle.std.specs.Prelude.{◌≡◌, IfOk};
 
-use coverage::{Scope, Search, Side};
+use schedules::covering::{Scope, Search, Side};
 use std::alloc::{AllocError, Global};
 use std::io::Write;
 

@@ -1,7 +1,7 @@
 use Rattle.std.proofs.Common.{◌≡◌, ◌∙◌, ap, sym, subst, Some}
-use Rattle.forward_command.specs.Requests.{IsPlaced}
-use Rattle.forward_command.specs.declared.piped.request.CaptureRequest.{CaptureRequest}
-use Rattle.forward_command.specs.declared.piped.request.CaptureRequest.TheVariants.{ToCapture}
+use Rattle.requests.specs.Conversions.{IsPlaced}
+use Rattle.requests.specs.declared.conversion.CaptureRequest.{CaptureRequest}
+use Rattle.requests.specs.declared.conversion.CaptureRequest.TheVariants.{ToCapture}
 use Rattle.command_line.proofs.captures.to_capture_in.Goals as goal
 
 pub returns-clause-value : goal.returns-clause-value

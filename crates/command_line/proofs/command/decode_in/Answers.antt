@@ -1,6 +1,6 @@
 use Rattle.std.proofs.Common.{◌≡◌, ap, Option, Some, None, unwrap_or}
-use Rattle.commands.specs.declared.decode.Form.{Form}
-use Rattle.commands.specs.Decoding.{ring_word, format_word}
+use Rattle.requests.specs.declared.decode.Form.{Form}
+use Rattle.requests.specs.Decoding.{ring_word, format_word}
 use Rattle.command_line.proofs.command.decode_in.Goals as goal
 
 pub returns-in_err-form : goal.returns-in_err-form

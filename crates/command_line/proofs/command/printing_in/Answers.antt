@@ -1,6 +1,6 @@
 -- Each flag is that of what is to be printed.
 use Rattle.std.proofs.Common.{◌≡◌, refl, Bool}
-use Rattle.forward_command.specs.declared.printing.Printing.{Printing}
+use Rattle.requests.specs.declared.printing.Printing.{Printing}
 use Rattle.command_line.proofs.command.printing_in.Goals as goal
 
 printing_is : (printing : Printing) (q j p : Bool) → q ≡ printing.quiet → j ≡ printing.json → p ≡ printing.progress

@@ -1,6 +1,6 @@
 use Rattle.std.proofs.Common.{◌≡◌, ap, Option, Some, None, unwrap_or}
 use Rattle.std.specs.Prelude.{not}
-use Rattle.commands.specs.declared.replay.Shown.{Shown}
+use Rattle.requests.specs.declared.replay.Shown.{Shown}
 use Rattle.command_line.proofs.ReplayWords.{begins_as, plan_is}
 use Rattle.command_line.proofs.command.replay_in.Goals as goal
 

@@ -1,8 +1,8 @@
 -- The flags and what is expected are those of the request.
 use Rattle.std.proofs.Common.{◌≡◌, ap, refl, Bool, Option, Some, None, unwrap_or}
-use Rattle.commands.specs.declared.replay.Shown.{Shown}
+use Rattle.requests.specs.declared.replay.Shown.{Shown}
 use Rattle.ring_model.specs.declared.states.Completion.{Completion}
-use Rattle.schedule_command.specs.declared.covering.request.CoverRequest.{CoverRequest}
+use Rattle.requests.specs.declared.covers.CoverRequest.{CoverRequest}
 use Rattle.command_line.proofs.covers.cover_in.Goals as goal
 
 -- a request, from its parts

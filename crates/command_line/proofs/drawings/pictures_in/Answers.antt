@@ -2,8 +2,8 @@
 use Rattle.std.proofs.Common.{◌≡◌, ◌∙◌, refl, codes, Option, Some, None}
 use Rattle.clap.specs.Words.{found_of}
 use Rattle.clap.proofs.WalkLemmas.{first_value-rows}
-use Rattle.commands.specs.declared.replay.Pictures.{Pictures as Drawn}
-use Rattle.commands.specs.declared.replay.Pictures.TheVariants.{Never, Each, Last, States, Page}
+use Rattle.requests.specs.declared.replay.Pictures.{Pictures as Drawn}
+use Rattle.requests.specs.declared.replay.Pictures.TheVariants.{Never, Each, Last, States, Page}
 use Rattle.command_line.specs.OptionWords.{picture_value, said_pictures}
 use Rattle.command_line.proofs.drawings.pictures_in.Goals as goal
 

@@ -1,11 +1,11 @@
 -- The four flags tell what is expected.
 use Rattle.std.proofs.Common.{◌≡◌, ◌∙◌, refl, Bool, true, false, ◌&&◌, Option, Some, None}
 use Rattle.std.specs.Prelude.{is_some, not}
-use Rattle.commands.specs.Replay.{is_page}
-use Rattle.commands.specs.declared.replay.Pictures.{Pictures}
-use Rattle.commands.specs.declared.replay.Pictures.TheVariants.{Never, Each, Last, States, Page}
-use Rattle.commands.specs.declared.replay.Shown.{Shown}
-use Rattle.schedule_command.specs.Lists.{shows_page}
+use Rattle.requests.specs.Replaying.{is_page}
+use Rattle.requests.specs.declared.replay.Pictures.{Pictures}
+use Rattle.requests.specs.declared.replay.Pictures.TheVariants.{Never, Each, Last, States, Page}
+use Rattle.requests.specs.declared.replay.Shown.{Shown}
+use Rattle.requests.specs.Lists.{shows_page}
 use Rattle.command_line.specs.ScheduleWords.{IsExpected, IsExpectedBy, expect_of, expects_json, expects_registers, says_expect}
 use Rattle.command_line.proofs.expects.expect_in.Goals as goal
 

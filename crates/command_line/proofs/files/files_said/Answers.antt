@@ -1,6 +1,6 @@
 -- The words of each option tell its files, by what is told of one word.
 use Rattle.std.proofs.Common.{◌∙◌, map, rules, sym}
-use Rattle.forward_command.specs.Words.{IsSource, IsWireFile, source_word, wire_file_word}
+use Rattle.requests.specs.Files.{IsSource, IsWireFile, source_word, wire_file_word}
 use Rattle.command_line.proofs.Limits.{never-lacks}
 use Rattle.command_line.proofs.SaidWords.{each-told, is-none, is-some}
 use Rattle.command_line.proofs.files.files_said.Goals as goal

@@ -1,7 +1,7 @@
 -- The flag tells which lists are asked for.
 use Rattle.std.proofs.Common.{◌≡◌, ⊎_elim, Bool, true, false, List, codes}
 use Rattle.clap.specs.Words.{Row}
-use Rattle.schedule_command.specs.declared.request.ScheduleRequest.{ScheduleRequest}
+use Rattle.requests.specs.declared.lists.ScheduleRequest.{ScheduleRequest}
 use Rattle.command_line.specs.OptionWords.{HasFlag}
 use Rattle.command_line.specs.ScheduleWords.{HasLists}
 use Rattle.command_line.proofs.lists.lists_in.Goals as goal

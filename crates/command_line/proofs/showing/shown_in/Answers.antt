@@ -1,10 +1,10 @@
 -- The four options say the form.
 use Rattle.std.proofs.Common.{◌≡◌, ◌∙◌, ap, ap₂, refl, sym, Bool, true, false, ◌&&◌, Option, Some, None, unwrap_or}
 use Rattle.std.specs.Prelude.{not}
-use Rattle.commands.specs.Replay.{is_page}
-use Rattle.commands.specs.declared.replay.Pictures.{Pictures}
-use Rattle.commands.specs.declared.replay.Pictures.TheVariants.{Never, Each, Last, States, Page}
-use Rattle.commands.specs.declared.replay.Shown.{Shown}
+use Rattle.requests.specs.Replaying.{is_page}
+use Rattle.requests.specs.declared.replay.Pictures.{Pictures}
+use Rattle.requests.specs.declared.replay.Pictures.TheVariants.{Never, Each, Last, States, Page}
+use Rattle.requests.specs.declared.replay.Shown.{Shown}
 use Rattle.command_line.specs.OptionWords.{said_pictures}
 use Rattle.command_line.specs.ShownWords.{HasWords, form_of, says_json, says_registers}
 use Rattle.command_line.proofs.showing.shown_in.Goals as goal

@@ -5,7 +5,8 @@ use crate::tests::forward::captured::{AT_0, FIVES, HEADER, joined};
 use crate::tests::streams::{Input, Output, Screen};
 use crate::tests::wanted::{holds, same};
 use capture::ReadOptions;
-use forward_command::piped::{CaptureRequest, perform};
+use forward_io::piped::perform;
+use requests::CaptureRequest;
 use std::alloc::Global;
 use std::process::Abort;
 

@@ -2,9 +2,10 @@
 
 use crate::tests::runs::{Host, text_of};
 use crate::tests::wanted::{holds, same};
-use forward_command::progress::{Form, forward};
 use forwarder::{Config, Report};
 use forwarding::Open;
+use program::progress::forward;
+use requests::ProgressForm;
 use std::alloc::Global;
 use std::io;
 use std::io::{ErrorKind, Write};
@@ -36,7 +37,7 @@ fn shows<R: Host>(
     rt: &R,
     alloc: Global,
     script: &Script,
-    (form, numbers, end): (Form, &str, &str),
+    (form, numbers, end): (ProgressForm, &str, &str),
 ) {
     let mut screen = Vec::new(alloc);
     let config = Config::default();
@@ -50,19 +51,19 @@ fn shows<R: Host>(
     same(rt, told, (text, true, true));
 }
 
-const FORMS: &[(Form, &str, &str)] = &[
+const FORMS: &[(ProgressForm, &str, &str)] = &[
     (
-        Form::Lines,
+        ProgressForm::Lines,
         "offered 3 of 3 taken 3 posted 3 per-second ",
         "\n",
     ),
     (
-        Form::Rewritten,
+        ProgressForm::Rewritten,
         "\r\u{1b}[Koffered 3 of 3 taken 3 posted 3 per-second ",
         "\n",
     ),
     (
-        Form::Objects,
+        ProgressForm::Objects,
         "{\"offered\":3,\"frames\":3,\"taken\":3,\"posted\":3,\"per_second\":",
         "}\n",
     ),
@@ -81,7 +82,7 @@ fn flows_on<R: Host, W: Write + Send>(
     rt: &R,
     alloc: Global,
     screen: &mut W,
-    form: Option<Form>,
+    form: Option<ProgressForm>,
 ) -> usize {
     let script = parse(alloc, SCRIPT).expect(rt, "a script");
     let config = Config::default();
@@ -91,7 +92,7 @@ fn flows_on<R: Host, W: Write + Send>(
 
 #[test]
 fn a_screen_that_fails_changes_nothing(rt: HostRuntime) {
-    let flows = flows_on(&rt, rt.alloc(), &mut Full, Some(Form::Lines));
+    let flows = flows_on(&rt, rt.alloc(), &mut Full, Some(ProgressForm::Lines));
     same(&rt, flows, 2);
 }
 

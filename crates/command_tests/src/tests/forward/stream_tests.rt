@@ -5,8 +5,9 @@ use crate::tests::forward::forty::{FORTY_WORDS, forty, forty_forwarded};
 use crate::tests::runs::Host;
 use crate::tests::streams::{Input, Output, PIECE, Screen};
 use crate::tests::wanted::{holds, same};
-use forward_command::{Printing, perform};
 use forwarder::Config;
+use program::perform;
+use requests::Printing;
 use std::alloc::Global;
 
 const WORDS: &[&str] = &["forward"];

@@ -1,8 +1,8 @@
 //! The moves of drawn lists.
 
 use crate::tests::wanted::{holds, same};
-use coverage::is_data;
 use ring_machine::{Completion, ControlStep, Move, RxStep, TxStep};
+use schedules::covering::is_data;
 use schedules::{Drawn, SchedulePlan, Thresholds, draw};
 use std::alloc::{AllocError, Global};
 use std::process::Abort;

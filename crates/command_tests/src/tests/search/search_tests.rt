@@ -1,8 +1,8 @@
 //! A search ends and omits nothing, and its lists meet all pairs that it has met.
 use crate::tests::search::second::{meet_along, second_search};
 use crate::tests::wanted::{holds, same};
-use coverage::{CoverList, Pair, Scope, Search, Side, is_data};
 use ring_machine::Completion;
+use schedules::covering::{CoverList, Pair, Scope, Search, Side, is_data};
 use std::alloc::Global;
 use std::collections::HashSet;
 use std::process::Abort;

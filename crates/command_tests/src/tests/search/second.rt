@@ -1,10 +1,10 @@
 //! A second search, written from the documented table of moves, without the machine. A queue is the list of its
 //! outstanding descriptors, and its states are searched depth first.
-use coverage::{Pair, Scope, Side, Told, moves_tried};
 use ring_machine::{
     Completion, ControlStep, ControllerState, DriverState, Move, RxStep, SegmentDescriptor,
     SegmentLength, TxStep,
 };
+use schedules::covering::{Pair, Scope, Side, Told, moves_tried};
 use std::alloc::{AllocError, Global};
 use std::collections::HashSet;
 

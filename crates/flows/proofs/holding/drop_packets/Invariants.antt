@@ -1,5 +1,5 @@
 use Rattle.std.proofs.Common.{◌≡◌, ◌≤◌, ◌++◌, length}
-use Rattle.driver.specs.declared.rx_driver.TheConstants.{MOST_BATCH}
+use Rattle.limits.specs.declared.profile.TheConstants.{MOST_BATCH}
 use Rattle.driver.specs.transmit.Frames.{numbers_in}
 use Rattle.pool.specs.Owned.{IsOf}
 use Rattle.flows.specs.Holding.{Keeps}

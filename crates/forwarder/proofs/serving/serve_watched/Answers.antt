@@ -2,8 +2,8 @@ use Rattle.std.proofs.Common.{rules, arith, ◌≡◌, ◌≤◌, true, All, len
 use Rattle.std.proofs.lemmas.Slice.Zip.{AllZip-long}
 use denote.Param.Send.{sendable}
 use Rattle.std.proofs.Crossing.{crosses}
-use Rattle.cells.proofs.cell.MomentCell.TheSendSync as Cell
-use Rattle.cells.proofs.cell.MomentPen.TheSendSync as Pen
+use Rattle.counters.proofs.cell.MomentCell.TheSendSync as Cell
+use Rattle.counters.proofs.cell.MomentPen.TheSendSync as Pen
 use Rattle.flows.proofs.Sent.{controller_flow, driver_flow}
 use Rattle.counters.specs.Paired.{IsFresh}
 use Rattle.controller.specs.Tallying.{nothing}

@@ -1,7 +1,7 @@
 use Rattle.std.proofs.Common.{◌≡◌, ℕ, length, rules, List, sym, subst, ap}
 use Rattle.std.specs.Prelude.{All}
 use Rattle.buffer_pool.specs.Buffer.{Buffer}
-use Rattle.driver.specs.declared.rx_driver.TheConstants.{MOST_BATCH}
+use Rattle.limits.specs.declared.profile.TheConstants.{MOST_BATCH}
 use Rattle.driver.specs.receive.Chains.{IsTaken}
 use Rattle.driver.specs.receive.Receiver.{hands}
 use Rattle.forwarding.proofs.Touches.{all-taken-shaped}

@@ -1,6 +1,6 @@
 //! A written moment is read back, inconsistent numbers are recognized, and memory may be refused.
 ghost use Rattle.std.specs.Prelude.{◌≡◌};
-ghost use Rattle.cells.specs.Moments.{NoneFalls};
+ghost use Rattle.counters.specs.Moments.{NoneFalls};
 
 use crate::tests::wanted::holds;
 use counters::{

@@ -1,5 +1,5 @@
 -- No buffer comes in or goes out by a batch that is received, nor by one that is sent.
-use Rattle.driver.specs.declared.rx_driver.TheConstants.{MOST_BATCH}
+use Rattle.limits.specs.declared.profile.TheConstants.{MOST_BATCH}
 use Rattle.lending.specs.Lent.{lent}
 use Rattle.uses.proofs.Moving.{same-trans, batch-received, batch-sent}
 use Rattle.uses.proofs.rounds.forward.Goals as goal

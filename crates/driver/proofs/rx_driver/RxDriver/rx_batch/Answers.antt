@@ -1,7 +1,7 @@
 use Rattle.std.proofs.Common.{◌≡◌, ◌∙◌, ◌<◌, ◌≤◌, false, length, sym, subst, arith}
 use Rattle.ring_model.specs.shared.Handshakes.{is_open}
 use Rattle.rx_ring.specs.Ends.{driver_state}
-use Rattle.driver.specs.declared.rx_driver.TheConstants.{MOST_BATCH}
+use Rattle.limits.specs.declared.profile.TheConstants.{MOST_BATCH}
 use Rattle.driver.specs.receive.Receiver.{Receiver, hands}
 use Rattle.driver.specs.receive.Batches.{Hands, at, Batched}
 use Rattle.driver.proofs.receive.Batching.{batched-published, batched-unpublished, batched-shut}

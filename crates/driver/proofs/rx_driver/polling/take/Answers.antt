@@ -5,7 +5,7 @@ use Rattle.ring_model.specs.shared.Handshakes.{is_live}
 use Rattle.rx_ring.specs.Ends.{driver_state}
 use Rattle.rx_ring.specs.Calls.{TookSegment}
 use Rattle.rx_ring.specs.Records.{RxDriven}
-use Rattle.driver.specs.declared.rx_driver.TheConstants.{MOST_BATCH}
+use Rattle.limits.specs.declared.profile.TheConstants.{MOST_BATCH}
 use Rattle.driver.specs.receive.Batches.{Hands, at, Polled, batch_of}
 use Rattle.driver.proofs.receive.Exchanging.{goes-none, goes-one, goes-full, goes-nothing, nothing_taken, some-left, none-left}
 use Rattle.driver.proofs.receive.Polling.{polled-none, polled-more, polled-ended, found_nothing, polled-nothing}

@@ -1,6 +1,6 @@
 use Rattle.std.proofs.Common.{◌+◌, ◌-◌, ◌≤◌, length}
 use Rattle.rx_ring.specs.Ends.{posted, taken}
-use Rattle.driver.specs.declared.rx_driver.TheConstants.{MOST_BATCH}
+use Rattle.limits.specs.declared.profile.TheConstants.{MOST_BATCH}
 use Rattle.driver.specs.receive.Batches.{at, Polled, batch_of}
 use Rattle.driver.proofs.receive.Exchanging.{GoesOn}
 use Rattle.driver.proofs.rx_driver.polling.take.Given as goal

@@ -1,5 +1,0 @@
-use Rattle.cells.proofs.Rises.{opens}
-use Rattle.cells.proofs.rule.may_open.Goals as goal
-
-pub returns : goal.returns
-returns g c = opens g.T.Words.words g.T.Moment.lawful _ _ c.requires.opening c.requires.lawful

@@ -1,5 +1,0 @@
-use Rattle.cells.proofs.Rises.{reads}
-use Rattle.cells.proofs.rule.may_read.Goals as goal
-
-pub returns : goal.returns
-returns g c = reads g.T.Words.words g.T.Moment.lawful _ _

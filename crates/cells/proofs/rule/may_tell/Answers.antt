@@ -1,5 +1,0 @@
-use Rattle.cells.proofs.Rises.{gives}
-use Rattle.cells.proofs.rule.may_tell.Goals as goal
-
-pub returns : goal.returns
-returns g c = gives g.T.Words.words g.T.Moment.lawful _ _

@@ -1,5 +1,0 @@
-use Rattle.cells.proofs.Rises.{writes}
-use Rattle.cells.proofs.rule.may_write.Goals as goal
-
-pub returns : goal.returns
-returns g c = writes g.T.Words.words g.T.Moment.lawful _ _ _ c.requires.writes c.requires.lawful c.requires.none_falls

@@ -1,4 +1,0 @@
-pub mod Watching
-pub mod Moments
-pub mod Rule
-pub mod Viewed

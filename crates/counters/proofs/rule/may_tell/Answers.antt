@@ -1,0 +1,5 @@
+use Rattle.counters.proofs.Rises.{gives}
+use Rattle.counters.proofs.rule.may_tell.Goals as goal
+
+pub returns : goal.returns
+returns g c = gives g.T.Words.words g.T.Moment.lawful _ _

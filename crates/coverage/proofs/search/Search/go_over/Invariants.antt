@@ -1,6 +1,0 @@
--- The search stays in its scope.
-use Rattle.std.proofs.Common.{◌≡◌}
-use Rattle.coverage.proofs.search.Search.go_over.Given as goal
-
-abbrev pub invariant-loop-action : goal.invariant-loop-action
-invariant-loop-action l = l.self ≡ l.initial.self

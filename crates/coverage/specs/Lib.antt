@@ -1,4 +1,0 @@
-pub mod Lists
-pub mod Pairs
-pub mod Told
-pub mod Tried

@@ -1,6 +1,0 @@
-use Rattle.std.proofs.Common.{◌≡◌, drop}
-use Rattle.forward_command.specs.Streams.{streamed_port}
-use Rattle.forward_command.proofs.captured.running.streamed.Given as goal
-
-abbrev pub invariant-loop-at : goal.invariant-loop-at
-invariant-loop-at l = streamed_port (drop l.at l.wires) ≡ streamed_port l.wires

@@ -1,5 +1,0 @@
-use Rattle.std.proofs.Common.{◌≡◌, ◌++◌, drop}
-use Rattle.forward_command.proofs.captured.script.push_copies.Given as goal
-
-abbrev pub invariant-loop-frame : goal.invariant-loop-frame
-invariant-loop-frame l = l.frames.items ++ drop l.frame-index l.more ≡ l.initial.frames.items ++ l.more

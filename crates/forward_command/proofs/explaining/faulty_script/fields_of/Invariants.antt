@@ -1,5 +1,0 @@
-use Rattle.text_lines.proofs.Cuts.{left_len}
-use Rattle.forward_command.proofs.explaining.faulty_script.fields_of.Given as goal
-
-abbrev pub decreases-loop-rest : goal.decreases-loop-rest
-decreases-loop-rest l = left_len l.rest

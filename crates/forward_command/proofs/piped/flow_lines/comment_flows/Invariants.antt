@@ -1,9 +1,0 @@
-use Rattle.std.proofs.Common.{◌≡◌, ◌++◌, true, drop, length, take}
-use Rattle.forward_command.specs.Flows.{without_flows}
-use Rattle.forward_command.proofs.piped.flow_lines.comment_flows.Given as goal
-
-abbrev pub invariant-loop-at : goal.invariant-loop-at
-invariant-loop-at l = record {
-  passed : take l.at l.text ++ without_flows l.begins (drop l.at l.text) ≡ without_flows true l.initial.text;
-  len : length l.text ≡ length l.initial.text;
-}

@@ -1,0 +1,6 @@
+mod Lines
+pub mod Piping
+mod Passing
+mod Captures
+pub mod Scripts
+mod Records

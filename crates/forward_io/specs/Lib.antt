@@ -1,0 +1,13 @@
+pub mod Objects
+pub mod Text
+pub mod Skips
+pub mod Intakes
+pub mod Flows
+pub mod Meanings
+pub mod Gathering
+pub mod Refusals
+pub mod Wires
+pub mod Streams
+pub mod ShownLines
+pub mod ScriptIntakes
+pub mod WireFiles

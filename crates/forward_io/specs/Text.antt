@@ -1,0 +1,59 @@
+-- The text of a report: the frames of the wires as script lines, unless it is quiet, then a line or an object for each
+-- flow.
+use Rattle.std.specs.Prelude.{ℕ, ◌+◌, Bool, true, false, if◌then◌else◌, List, [], ◌∷◌, ◌++◌, codes, decimal, drop, length, map, take}
+use Rattle.forwarding.specs.declared.report.FlowReport.{FlowReport}
+use Rattle.wire_script.specs.Frame.{Frame, frame_of}
+use Rattle.wire_script.specs.Script.{text_for}
+use Rattle.forward_io.specs.Objects.{ended_word, flow_object}
+use Rattle.requests.specs.declared.printing.Printing.{Printing}
+
+-- the frames that left a port, of the flows of its queues from this one on
+abbrev pub wires_from : ℕ → ℕ → List FlowReport → List Frame
+wires_from port queue [] = []
+wires_from port queue (r ∷ rs) = map (frame_of port queue) r.wire ++ wires_from port (queue + 1) rs
+
+-- The frames that left both ports, of the flows that came in at port 0, and of those of port 1: frames that come in at
+-- one port leave at the other
+abbrev pub wires_of : List FlowReport → List FlowReport → List Frame
+wires_of front back = wires_from 0 0 back ++ wires_from 1 0 front
+
+-- their lines, unless `quiet` is set
+abbrev pub wires_text : Bool → List FlowReport → List FlowReport → List ℕ
+wires_text quiet front back = if quiet then [] else text_for (wires_of front back)
+
+-- the frames offered to the flow at this port and queue, and their fate at its receive ring
+abbrev pub offered_words : ℕ → ℕ → FlowReport → List ℕ
+offered_words port queue r =
+    codes "flow " ++ (decimal port ++ (codes " " ++ (decimal queue ++ (codes " offered " ++ (decimal r.offered
+    ++ (codes " stored " ++ (decimal r.stored ++ (codes " dropped " ++ (decimal r.dropped ++ (codes " oversize " ++ decimal r.oversize))))))))))
+
+-- the counts of its driver
+abbrev pub driven_words : FlowReport → List ℕ
+driven_words r = codes " taken " ++ (decimal r.taken ++ (codes " posted " ++ (decimal r.posted ++ (codes " tx-dropped " ++ decimal r.tx_dropped))))
+
+-- the frames that went out and remained, and how it ended
+abbrev pub ending_words : FlowReport → List ℕ
+ending_words r =
+    codes " wire " ++ (decimal (length r.wire) ++ (codes " left " ++ (decimal r.left ++ (codes " ended " ++ (ended_word r.ended ++ 10 ∷ [])))))
+
+-- the line of a flow
+unfoldable pub flow_line : ℕ → ℕ → FlowReport → List ℕ
+flow_line port queue r = offered_words port queue r ++ (driven_words r ++ ending_words r)
+
+-- the object or the line of a flow
+abbrev pub flow_text : Bool → ℕ → ℕ → FlowReport → List ℕ
+flow_text true port queue r = flow_object port queue r
+flow_text false port queue r = flow_line port queue r
+
+-- the texts of the flows that came in at a port, at its queues from this one on
+abbrev pub flow_texts : Bool → ℕ → ℕ → List FlowReport → List ℕ
+flow_texts json port queue [] = []
+flow_texts json port queue (r ∷ rs) = flow_text json port queue r ++ flow_texts json port (queue + 1) rs
+
+-- the text of the reports of both ports' flows
+abbrev pub both_text : Printing → List FlowReport → List FlowReport → List ℕ
+both_text printing front back = wires_text printing.quiet front back ++ (flow_texts printing.json 0 0 front ++ flow_texts printing.json 1 0 back)
+
+-- the text of a report with `pairs` queue pairs at each port
+abbrev pub report_text : Printing → ℕ → List FlowReport → List ℕ
+report_text printing pairs flows = both_text printing (take pairs flows) (drop pairs flows)

@@ -1,0 +1,5 @@
+mod Refusing
+pub mod Endings
+pub mod CaptureEndings
+mod Sums
+pub mod RunEndings

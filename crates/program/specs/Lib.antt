@@ -1,0 +1,4 @@
+pub mod Forwards
+pub mod CaptureForwards
+pub mod ShownSums
+pub mod RunEnds

@@ -1,0 +1,168 @@
+//! Serves `forward` with captures, and returns an exit status.
+ghost use Rattle.std.specs.Prelude.{◌≡◌, ◌⊎◌, ℕ, List, [], None, Some, false, IfErr, IfOk, OnOk};
+ghost use Rattle.std.specs.Io.KnownBytes.{Keeps};
+ghost use Rattle.requests.specs.declared.answers.TheConstants.{DONE, REFUSED};
+ghost use Rattle.program.specs.Forwards.{EndsForward};
+ghost use Rattle.program.specs.CaptureForwards.{EndsRefused, HasNoPage, IsPage, PrintsPage, WithholdsPage};
+ghost use Rattle.forward_io.specs.Intakes.{reads_script};
+ghost use Rattle.forward_io.specs.Streams.{outlet};
+ghost use Rattle.requests.specs.Files.{streamed_port};
+
+use crate::cuts::{Due, explain_cuts};
+use crate::page::forwarded;
+use forward_io::captured::{Intake, Refused, page_for, script_for, targets_of, tell};
+use forwarder::Config;
+use requests::{DONE, Printing, WireFile, put};
+use std::alloc::Global;
+use std::io::{IsTerminal, Read, Write};
+use std::marker::Send;
+use std::rt::Files;
+use std::sync::Wait;
+use std::thread::Threads;
+use std::time::Clock;
+
+/// Forwards the frames of an intake: those of its captures, and then those of the script of `input` if that is read
+/// ([`Intake::reads_script`]). Returns an exit status.
+///
+/// Prints the wires and counts to `output`, with status 0, and writes the frames that left a port to its wire files.
+/// If a wire file is standard output (`-` or `/dev/stdout`), prints that capture to `output` instead, and the counts
+/// to `screen`. If records were left out of a capture, a line on `screen` says how many, and with `json` an object on
+/// `output`. Prints a refusal to `faults` as one line, with status 1, after the name of the file that it concerns,
+/// if any. Shows progress on `screen`, if selected. With `explain`, a second line explains a refusal, and a line on
+/// `screen` names each flow that was cut before all its frames were offered.
+///
+/// The first of these refusals applies: a wire file that cannot be written, or that is the same file as another or as a
+/// capture, before anything else is done; a capture, in order; the refusals of `forward` for a script; a lack of memory for the output; a wire file; and the output, which is printed last.
+pub fn answer<
+    R: Threads + Wait + Clock + Sync + Files,
+    I: Read,
+    W: Write,
+    E: Write,
+    M: Write + IsTerminal + Send,
+>(
+    rt: &R,
+    alloc: Global,
+    config: &Config,
+    printing: Printing,
+    intake: &Intake<'_, '_>,
+    wires: &[WireFile<'_>],
+    input: &mut I,
+    output: &mut W,
+    faults: &mut E,
+    screen: &mut M,
+    explain: bool,
+) -> u8
+    ensures status { (result ≡ DONE) ⊎ (result ≡ REFUSED) }
+    ensures done { result ≡ DONE → Keeps (E.contents faults.old) (E.contents faults.new) }
+    ensures forward { intake.now.sources ≡ [] → streamed_port wires.now ≡ None → (text : List ℕ) → I.remaining input.old ≡ Some text
+        → EndsForward config.now printing text result (W.contents output.old) (W.contents output.new) }
+    ensures captured { result ≡ DONE
+        → PrintsPage config.now (outlet printing wires.now) intake.now (I.remaining input.old) (W.contents output.old) (W.contents output.new) }
+    ensures refused { result ≡ REFUSED
+        → EndsRefused config.now (outlet printing wires.now) intake.now (I.remaining input.old) (W.contents output.old) (W.contents output.new) }
+    ensures unread { reads_script intake.now ≡ false → input.new ≡ input.old }
+    ensures screen { printing.progress ≡ false → streamed_port wires.now ≡ None → intake.now.reading.skip ≡ false → config.now.turns ≡ 0 → screen.new ≡ screen.old }
+{
+    let mut why = String::new(alloc);
+    match perform(
+        rt, alloc, config, printing, intake, wires, input, output, screen, &mut why,
+    ) {
+        Ok(()) => {
+            note_cuts(screen, config.turns, explain, why.as_str());
+            drop(why);
+            DONE
+        }
+        Err(refused) => tell(faults, config, intake.sources, wires, refused, why, explain),
+    }
+}
+
+/// Prints the lines of cut flows. Without `--turns`, no flow is cut.
+fn note_cuts<M: Write>(screen: &mut M, turns: u32, explain: bool, why: &str)
+    ensures { turns ≡ 0 → screen.new ≡ screen.old }
+{
+    if turns == 0 {
+        return;
+    }
+    if explain && !why.is_empty() {
+        let _ = writeln!(screen, "note: {why}");
+    }
+}
+
+/// Forwards with captures, writes the wire files and prints the output. A refusal before the printing leaves `output`
+/// unchanged. A failing `screen` changes nothing. Appends to `why` what the input shows of a refusal, or the flows that
+/// were cut before all their frames were offered.
+pub fn perform<
+    R: Threads + Wait + Clock + Sync + Files,
+    I: Read,
+    W: Write,
+    M: Write + IsTerminal + Send,
+>(
+    rt: &R,
+    alloc: Global,
+    config: &Config,
+    printing: Printing,
+    intake: &Intake<'_, '_>,
+    wires: &[WireFile<'_>],
+    input: &mut I,
+    output: &mut W,
+    screen: &mut M,
+    why: &mut String,
+) -> Result<(), Refused>
+    ensures done { OnOk result (PrintsPage config.now (outlet printing wires.now) intake.now (I.remaining input.old) (W.contents output.old) (W.contents output.new)) }
+    ensures refused { IfErr result (λ e.
+        WithholdsPage config.now (outlet printing wires.now) intake.now wires.now (I.remaining input.old) e (W.contents output.old) (W.contents output.new)) }
+    ensures unread { reads_script intake.now ≡ false → input.new ≡ input.old }
+    ensures screen { printing.progress ≡ false → streamed_port wires.now ≡ None → intake.now.reading.skip ≡ false → screen.new ≡ screen.old }
+{
+    let (bytes, text) = page_of(
+        rt, alloc, config, printing, intake, wires, input, screen, why,
+    )?;
+    put(bytes.as_slice(), output)?;
+    if let Some(text) = text {
+        let _ = screen.write_all(text.as_bytes());
+        let _ = screen.flush();
+    }
+    Ok(())
+}
+
+/// Writes the wire files. Returns the bytes for standard output, and the text for standard error: the records that were
+/// left out, and the counts if a capture replaces them on standard output.
+fn page_of<R: Threads + Wait + Clock + Sync + Files, I: Read, M: Write + IsTerminal + Send>(
+    rt: &R,
+    alloc: Global,
+    config: &Config,
+    printing: Printing,
+    intake: &Intake<'_, '_>,
+    wires: &[WireFile<'_>],
+    input: &mut I,
+    screen: &mut M,
+    why: &mut String,
+) -> Result<(Vec<u8>, Option<String>), Refused>
+    ensures page { IfOk result (λ p. IsPage config.now (outlet printing wires.now) intake.now (I.remaining input.old) p.0.items) }
+    ensures beside { IfOk result (λ p. streamed_port wires.now ≡ None → intake.now.reading.skip ≡ false → p.1 ≡ None) }
+    ensures refused { IfErr result (λ e. HasNoPage config.now intake.now wires.now (I.remaining input.old) e) }
+    ensures unread { reads_script intake.now ≡ false → input.new ≡ input.old }
+    ensures screen { printing.progress ≡ false → screen.new ≡ screen.old }
+{
+    let targets = targets_of(rt, alloc, intake.sources, wires)?;
+    let (script, skipped) = script_for(rt, alloc, config.pairs, intake, input, why)?;
+    let due = Due::of(&script);
+    let form = printing.form(screen.is_terminal());
+    let report = forwarded(rt, alloc, config, script, screen, form)?;
+    let pairs = config.pairs as usize;
+    let flows = report.flows.as_slice();
+    let _ = explain_cuts(why, pairs, config.turns, &due, flows);
+    let page = page_for(
+        rt,
+        alloc,
+        pairs,
+        printing,
+        intake,
+        skipped.as_slice(),
+        wires,
+        targets.as_slice(),
+        flows,
+    );
+    drop(report);
+    page
+}

@@ -1,0 +1,32 @@
+//! What `decode` decodes.
+ghost use Rattle.std.specs.Prelude.{◌≡◌, ◌↔◌, Some};
+ghost use Rattle.requests.specs.Decoding.{format_word, ring_word};
+
+/// The form of a descriptor. Its bytes do not determine it.
+#[derive(Clone, Copy)]
+pub enum Form {
+    /// A receive descriptor as the driver posts it (82599 datasheet, 7.1.6.1).
+    RxRead,
+    /// A receive descriptor as the controller writes it back (82599 datasheet, 7.1.6.2).
+    RxBack,
+    /// A transmit descriptor as the driver posts it (82599 datasheet, 7.2.3.2.4).
+    TxRead,
+    /// A transmit descriptor as the controller writes it back (82599 datasheet, 7.2.3.2.4).
+    TxBack,
+}
+
+impl Form {
+    /// The form for the ring `rx` or `tx` and the format `read` or `back`, or `None` for other words.
+    pub fn named(ring: &str, format: &str) -> Option<Form>
+        ensures { (form : Form)
+            → (result ≡ Some form) ↔ (ring.now ≡ ring_word form) × (format.now ≡ format_word form) }
+    {
+        match (ring, format) {
+            ("rx", "read") => Some(Form::RxRead),
+            ("rx", "back") => Some(Form::RxBack),
+            ("tx", "read") => Some(Form::TxRead),
+            ("tx", "back") => Some(Form::TxBack),
+            _ => None,
+        }
+    }
+}

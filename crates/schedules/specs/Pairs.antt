@@ -1,0 +1,44 @@
+-- The states of both sides by number, and in words.
+use Rattle.std.specs.Prelude.{ℕ, List, ◌++◌, codes}
+use Rattle.ring_model.specs.declared.states.DriverState.{DriverState}
+use Rattle.ring_model.specs.declared.states.DriverState.TheVariants as driver
+use Rattle.ring_model.specs.declared.states.ControllerState.{ControllerState}
+use Rattle.ring_model.specs.declared.states.ControllerState.TheVariants as controller
+use Rattle.ring_machine.specs.text.Moves.{name_of}
+use Rattle.schedules.specs.declared.covering.pairs.Pair.{Pair}
+use Rattle.schedules.specs.Told.{told_words}
+
+abbrev pub driver_number : DriverState → ℕ
+driver_number driver.New = 0
+driver_number driver.Asked = 1
+driver_number driver.On = 2
+driver_number driver.Stopping = 3
+driver_number driver.Stopped = 4
+driver_number driver.Cleared = 5
+driver_number driver.Tailed = 6
+
+abbrev pub controller_number : ControllerState → ℕ
+controller_number controller.Off = 0
+controller_number controller.Serving = 1
+controller_number controller.Ended = 2
+
+abbrev pub driver_words : DriverState → List ℕ
+driver_words driver.New = codes "New"
+driver_words driver.Asked = codes "Asked"
+driver_words driver.On = codes "On"
+driver_words driver.Stopping = codes "Stopping"
+driver_words driver.Stopped = codes "Stopped"
+driver_words driver.Cleared = codes "Cleared"
+driver_words driver.Tailed = codes "Tailed"
+
+abbrev pub controller_words : ControllerState → List ℕ
+controller_words controller.Off = codes "off"
+controller_words controller.Serving = codes "serving"
+controller_words controller.Ended = codes "ended"
+
+abbrev pub states_text : DriverState → ControllerState → List ℕ
+states_text d c = codes "driver " ++ driver_words d ++ codes " controller " ++ controller_words c
+
+-- "r0 A6 driver On controller serving: none"
+abbrev pub pair_text : Pair → List ℕ
+pair_text p = name_of p.action ++ codes " " ++ states_text p.driver p.controller ++ codes ": " ++ told_words p.told
