@@ -4,8 +4,8 @@ use Rattle.std.specs.Prelude.{decimal, not}
 use Rattle.std.specs.Fmt.{digits}
 use Rattle.clap.specs.Values.{bool_text}
 use Rattle.clap.specs.Words.{App, Row, Text, subcommand_of, takes}
-use Rattle.schedules.specs.Thresholds.{IsThresholds}
-use Rattle.schedules.specs.declared.thresholds.Thresholds.{Thresholds}
+use Rattle.settings.specs.Thresholds.{IsThresholds}
+use Rattle.settings.specs.declared.thresholds.Thresholds.{Thresholds}
 use Rattle.requests.specs.declared.lists.ScheduleRequest.{ScheduleRequest}
 use Rattle.requests.specs.Lists.{shows_page}
 use Rattle.command_line.specs.CommandLine.{IsProgram}

@@ -6,7 +6,7 @@ use Rattle.std.proofs.lemmas.List.Elements.{All-cons, All-head, All-nil, All-tai
 use Rattle.clap.specs.Simple.{Shape, new_shape}
 use Rattle.clap.specs.Words.{App, Row, Text, built, subcommand_of, takes}
 use Rattle.clap.proofs.OnLiterals.{clap_on_literals}
-use Rattle.forward_config.specs.declared.config.Config.{Config}
+use Rattle.settings.specs.declared.config.Config.{Config}
 use Rattle.requests.specs.declared.printing.Printing.{Printing}
 use Rattle.ring_model.specs.declared.states.Completion.{Completion}
 use Rattle.command_line.specs.CommandLine.{Choices, HasForward, HasPrinting, IsProgram, SaysForward, program_app}

@@ -1,7 +1,7 @@
 -- Requests of `schedules`, from their parts.
 use Rattle.std.proofs.Common.{◌≡◌, refl, ℕ, Option}
 use Rattle.requests.specs.declared.replay.Shown.{Shown}
-use Rattle.schedules.specs.declared.plan.SchedulePlan.{SchedulePlan}
+use Rattle.settings.specs.declared.plan.SchedulePlan.{SchedulePlan}
 use Rattle.requests.specs.declared.lists.ScheduleRequest.{ScheduleRequest}
 
 pub request-from : (request : ScheduleRequest) (p : SchedulePlan) (s n : ℕ) (e : Option Shown) → p ≡ request.plan → s ≡ request.seed → n ≡ request.count → e ≡ request.expect

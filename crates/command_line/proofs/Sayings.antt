@@ -8,7 +8,7 @@ use Rattle.requests.specs.declared.replay.QueuePlan.{QueuePlan}
 use Rattle.capture.specs.declared.options.ReadOptions.{ReadOptions}
 use Rattle.requests.specs.declared.covers.CoverRequest.{CoverRequest}
 use Rattle.requests.specs.declared.printing.Printing.{Printing}
-use Rattle.forward_config.specs.declared.config.Config.{Config}
+use Rattle.settings.specs.declared.config.Config.{Config}
 use Rattle.requests.specs.declared.lists.ScheduleRequest.{ScheduleRequest}
 use Rattle.command_line.specs.CommandLine.{IsMisuse, IsProgram, SaysForward}
 use Rattle.command_line.specs.FileWords.{FileOptions}

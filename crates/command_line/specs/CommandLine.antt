@@ -10,7 +10,7 @@ use Rattle.requests.specs.declared.request.Request.TheVariants.{Once, Decode, Re
 use Rattle.requests.specs.declared.decode.Form.{Form}
 use Rattle.requests.specs.declared.replay.QueuePlan.{QueuePlan}
 use Rattle.requests.specs.Decoding.{ring_word, format_word}
-use Rattle.forward_config.specs.declared.config.Config.{Config}
+use Rattle.settings.specs.declared.config.Config.{Config}
 use Rattle.requests.specs.declared.printing.Printing.{Printing}
 use Rattle.requests.specs.Conversions.{IsPlaced}
 use Rattle.requests.specs.declared.conversion.CaptureRequest.{CaptureRequest}

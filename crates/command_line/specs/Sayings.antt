@@ -8,7 +8,7 @@ use Rattle.capture.specs.declared.options.ReadOptions.{ReadOptions}
 use Rattle.requests.specs.declared.covers.CoverRequest.{CoverRequest}
 use Rattle.requests.specs.declared.printing.Printing.{Printing}
 use Rattle.requests.specs.Files.{streamed_port}
-use Rattle.forward_config.specs.declared.config.Config.{Config}
+use Rattle.settings.specs.declared.config.Config.{Config}
 use Rattle.requests.specs.declared.lists.ScheduleRequest.{ScheduleRequest}
 use Rattle.command_line.specs.CaptureWords.{HasFromCapture, HasToCapture, SaysFromCapture, SaysToCapture}
 use Rattle.command_line.specs.CommandLine.{HasDecode, HasForward, HasOnce, HasPrinting, HasReplay, IsCapture, IsCover, IsDecode, IsForward, IsMisuse, IsOnce, IsReplayOf, IsRequest, IsSchedules}

@@ -9,10 +9,10 @@ use Rattle.requests.specs.declared.replay.Pictures.{Pictures}
 use Rattle.requests.specs.declared.replay.TheConstants.{PAGE}
 use Rattle.requests.specs.declared.replay.Shown.{Shown}
 use Rattle.requests.specs.declared.covers.CoverRequest.{CoverRequest}
-use Rattle.schedules.specs.declared.plan.SchedulePlan.{SchedulePlan}
+use Rattle.settings.specs.declared.plan.SchedulePlan.{SchedulePlan}
 use Rattle.ring_model.specs.declared.states.Completion.TheVariants.{Status}
-use Rattle.schedules.specs.Thresholds.{Fit, IsThresholds}
-use Rattle.schedules.specs.declared.thresholds.Thresholds.{Thresholds}
+use Rattle.settings.specs.Thresholds.{Fit, IsThresholds}
+use Rattle.settings.specs.declared.thresholds.Thresholds.{Thresholds}
 use Rattle.requests.specs.Lists.{shows_page}
 use Rattle.requests.specs.declared.lists.ScheduleRequest.{ScheduleRequest}
 use Rattle.command_line.specs.OptionWords.{HasFlag, HasNumber, SaysNumber, SaysNumberBelow, bounded_rule, explain_rule, explain_words, flag_rule, flag_words, is_head, number_rule, queue_rules, with_rules, word_rule}

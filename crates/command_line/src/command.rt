@@ -8,7 +8,7 @@ ghost use Rattle.command_line.specs.CommandLine.{CanBeDone, HasDecode, HasForwar
 ghost use Rattle.requests.specs.declared.replay.QueuePlan.{QueuePlan};
 ghost use Rattle.command_line.specs.OptionWords.{HasFlag, is_head};
 ghost use Rattle.ring_model.specs.declared.states.Completion.{Completion as Reports};
-ghost use Rattle.forward_config.specs.declared.config.Config.{Config as ForwardConfig};
+ghost use Rattle.settings.specs.declared.config.Config.{Config as ForwardConfig};
 ghost use Rattle.requests.specs.declared.printing.Printing.{Printing as Printed};
 ghost use Rattle.command_line.specs.Sayings.{Holds, IsAsked, Says, Saying, name_of};
 
@@ -21,9 +21,9 @@ use crate::reading::{flag_in, number_in, word_in};
 use crate::showing::shown_in;
 use clap::error::ErrorKind;
 use clap::{ArgMatches, Error};
-use forward_config::Config;
 use requests::{CaptureRequest, CoverRequest, Form, Printing, QueuePlan, Request, ScheduleRequest};
 use ring_model::Completion;
+use settings::Config;
 use std::alloc::Global;
 
 /// The error for missing options that `clap` does not require.

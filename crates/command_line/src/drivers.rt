@@ -2,8 +2,8 @@
 ghost use Rattle.std.specs.Prelude.{◌≡◌, ℕ, Bool, None, Some, codes, false, true, IfSome, IsSomeAnd};
 ghost use Rattle.clap.specs.Words.{Text, first_of, found_of, rows_of};
 ghost use Rattle.clap.specs.declared.error.kind.ErrorKind.TheVariants.{ArgumentConflict, ValueValidation};
-ghost use Rattle.schedules.specs.Thresholds.{Fit, IsThresholds};
-ghost use Rattle.schedules.specs.declared.thresholds.Thresholds.{Thresholds as Driver};
+ghost use Rattle.settings.specs.Thresholds.{Fit, IsThresholds};
+ghost use Rattle.settings.specs.declared.thresholds.Thresholds.{Thresholds as Driver};
 ghost use Rattle.requests.specs.declared.lists.ScheduleRequest.{ScheduleRequest as Lists};
 ghost use Rattle.command_line.specs.ScheduleWords.{Excludes, FitNone, FollowsDriver, HasDriver, HasText, strays};
 
@@ -14,7 +14,7 @@ use crate::reading::{flag_in, number_in, text_in, word_in};
 use clap::ArgMatches;
 use clap::error::ErrorKind;
 use requests::ScheduleRequest;
-use schedules::Thresholds;
+use settings::Thresholds;
 
 /// The error for `--driver` together with an option that a driver cannot follow.
 const NOT_DRIVEN: &str =

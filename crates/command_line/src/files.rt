@@ -3,7 +3,7 @@ ghost use Rattle.std.specs.Prelude.{◌≡◌, List, Some, IfOk, IsSomeAnd, Matc
 ghost use Rattle.std.specs.String.{string_bytes};
 ghost use Rattle.clap.specs.Words.{Row, Text, all_of, found_of, kind_of, rows_of, subcommand_rows_of};
 ghost use Rattle.clap.specs.declared.error.kind.ErrorKind.TheVariants.{OutOfMemory};
-ghost use Rattle.forward_config.specs.declared.config.Config.{Config as ForwardConfig};
+ghost use Rattle.settings.specs.declared.config.Config.{Config as ForwardConfig};
 ghost use Rattle.requests.specs.declared.printing.Printing.{Printing as Printed};
 ghost use Rattle.command_line.specs.CommandLine.{SaysForward};
 ghost use Rattle.command_line.specs.FileWords.{AreFiles, AreTold, FileOptions, HasFiles, HoldsFiles, file_values, lacks_captures};

@@ -1,7 +1,7 @@
 //! Reads the request of `schedules` from matches.
 ghost use Rattle.std.specs.Prelude.{◌≡◌, Some, IfSome, IsSomeAnd};
 ghost use Rattle.clap.specs.Words.{found_of, rows_of};
-ghost use Rattle.schedules.specs.declared.plan.SchedulePlan.{SchedulePlan as Plan};
+ghost use Rattle.settings.specs.declared.plan.SchedulePlan.{SchedulePlan as Plan};
 ghost use Rattle.requests.specs.declared.lists.ScheduleRequest.{ScheduleRequest as Lists};
 ghost use Rattle.requests.specs.declared.covers.CoverRequest.{CoverRequest as Covering};
 ghost use Rattle.command_line.specs.CommandLine.{CanBeDone, IsCover, IsSchedules};
@@ -14,7 +14,7 @@ use crate::expects::expect_in;
 use crate::reading::{flag_in, number_in};
 use clap::ArgMatches;
 use requests::ScheduleRequest;
-use schedules::{SchedulePlan, Thresholds};
+use settings::{SchedulePlan, Thresholds};
 
 /// The recommended lists: seed, number of lists, moves per list, and maximum percentage of moves that do not happen.
 const SEED: u32 = 82_599;

@@ -1,5 +1,5 @@
 //! Forwards a few frames on each flow again and again, and drops the wires.
-ghost use Rattle.forward_config.specs.Configs.{IsLawful};
+ghost use Rattle.settings.specs.Configs.{IsLawful};
 
 use crate::hot_flow::HotFlow;
 use crate::load::Load;

@@ -2,7 +2,7 @@
 //! again.
 ghost use Rattle.std.specs.Prelude.{◌≡◌, ℕ, ◌<◌, [], length, vec_len, slice_index_or};
 ghost use Rattle.pool.specs.Owned.{IsOf};
-ghost use Rattle.forward_config.specs.Configs.{IsLawful};
+ghost use Rattle.settings.specs.Configs.{IsLawful};
 ghost use Rattle.forwarder.specs.Lines.{AreEnds};
 
 use crate::hot_flow::HotFlow;

@@ -1,6 +1,6 @@
 //! What the command `forward` reads and prints, apart from the run itself: captures and scripts come in, the text of a
 //! report and captures go out. And the commands `from-capture` and `to-capture`, which convert between both.
-//! Depends on `requests`, `commands`, `forward_config`, `forwarding`, `controller`, `wire_script`, `capture`, `text_lines`,
+//! Depends on `requests`, `commands`, `settings`, `forwarding`, `controller`, `wire_script`, `capture`, `text_lines`,
 //! `limits` and `refusals`.
 //! Each text and each capture is a function of the report or of the input, and a refusal names its cause.
 //!

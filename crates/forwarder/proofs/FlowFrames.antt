@@ -4,7 +4,7 @@ use Rattle.std.specs.Prelude.{slice_get}
 use Rattle.flows.specs.Keys.{bytes_at, frames_at}
 use Rattle.ring_model.specs.shared.Frames.{Bytes}
 use Rattle.wire_script.specs.Frame.{Frame}
-use Rattle.forward_config.specs.declared.config.Config.{Config}
+use Rattle.settings.specs.declared.config.Config.{Config}
 use Rattle.forwarder.specs.Plans.{plan}
 use Rattle.forwarder.specs.Flows.{flow_of, frames_of, places_from}
 

@@ -6,7 +6,7 @@ use Rattle.rx_ring.specs.Meeting as receive
 use Rattle.tx_ring.specs.Meeting as transmit
 use Rattle.wire_script.specs.Frame.{Frame}
 use Rattle.forwarder.specs.Flows.{places_of}
-use Rattle.forward_config.specs.declared.config.Config.{Config}
+use Rattle.settings.specs.declared.config.Config.{Config}
 use Rattle.forwarder.specs.declared.lines.Line.{Line}
 use Rattle.forwarder.specs.declared.lines.LineEnds.{LineEnds}
 

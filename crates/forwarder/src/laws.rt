@@ -1,6 +1,6 @@
 //! A law about the plans of a configuration, as the contract of a function that does nothing.
 ghost use Rattle.std.specs.Prelude.{◌≡◌, ℕ, List};
-ghost use Rattle.forward_config.specs.declared.config.Config.{Config};
+ghost use Rattle.settings.specs.declared.config.Config.{Config};
 ghost use Rattle.forwarder.specs.Flows.{frames_of};
 ghost use Rattle.forwarder.specs.Plans.{plan};
 ghost use Rattle.wire_script.specs.Frame.{Frame};

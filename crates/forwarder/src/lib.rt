@@ -1,5 +1,5 @@
 //! The two-port forwarder.
-//! Depends on `forward_config`, `flows`, `counters`, `lending`, and the crates below them.
+//! Depends on `settings`, `flows`, `counters`, `lending`, and the crates below them.
 //! The report of each flow satisfies the flow's plan, and after every call all buffers are back in the pool.
 //!
 //! A [`Config`] says how it runs, and is checked before anything else. An [`Index`] lists the frames of a script flow
@@ -34,12 +34,12 @@ mod wrapping;
 
 pub use abort::close_flow;
 pub use calls::{forward, forward_in, forward_watched};
-pub use forward_config::{Config, LEAST_SHARE};
 pub use index::Index;
 pub use laws::plans_have_the_flows_frames;
 pub use lines::{Line, LineEnds, make_lines};
 pub use numbered::Numbered;
 pub use report::Report;
 pub use serving::{Shown, serve_watched};
+pub use settings::{Config, LEAST_SHARE};
 pub use starting::start_flow;
 pub use watched::Watched;

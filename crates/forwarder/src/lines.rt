@@ -3,13 +3,13 @@ ghost use Rattle.std.specs.Prelude.{◌≡◌, ℕ, ◌*◌, ◌<◌, IfOk, IfEr
 ghost use Rattle.limits.specs.RingLength.{IsRingLength};
 ghost use Rattle.limits.specs.declared.profile.TheConstants.{PORTS};
 ghost use Rattle.refusals.specs.declared.errors.ForwardError.TheVariants.{Memory};
-ghost use Rattle.forward_config.specs.Configs.{HasLawfulQueues};
+ghost use Rattle.settings.specs.Configs.{HasLawfulQueues};
 ghost use Rattle.forwarder.specs.Lines.{AreEnds};
 
-use forward_config::Config;
 use forwarding::ForwardError;
 use limits::PORTS;
 use rx_ring::{RxControllerEnd, RxDriverEnd, RxRing};
+use settings::Config;
 use std::alloc::Global;
 use tx_ring::{Completion, TxControllerEnd, TxDriverEnd, TxRing};
 

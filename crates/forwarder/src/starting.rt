@@ -3,13 +3,13 @@ ghost use Rattle.std.specs.Prelude.{◌≡◌, ◌+◌, ◌<◌};
 ghost use Rattle.flows.specs.Counting.{none};
 ghost use Rattle.pool.specs.Owned.{IsOf};
 ghost use Rattle.shared_ring.specs.Calls.{IsFreshDriver};
-ghost use Rattle.forward_config.specs.Configs.{IsLawful};
+ghost use Rattle.settings.specs.Configs.{IsLawful};
 
 use crate::lines::Line;
 use flows::{DriverFlow, Task};
-use forward_config::Config;
 use pool::{Pool, PoolPass};
 use rx_ring::RxDriverEnd;
+use settings::Config;
 use std::sync::Wait;
 use tx_ring::TxDriverEnd;
 

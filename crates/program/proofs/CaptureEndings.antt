@@ -10,7 +10,7 @@ use Rattle.program.specs.Forwards.{AreReports, EndsForward, IsForwarded, IsUnfor
 use Rattle.forward_io.specs.Streams.{Outlet, output_bytes}
 use Rattle.requests.specs.declared.printing.Printing.{Printing}
 use Rattle.program.proofs.Endings.{done-ends, kept, refused-ends}
-use Rattle.forward_config.specs.declared.config.Config.{Config}
+use Rattle.settings.specs.declared.config.Config.{Config}
 use Rattle.forward_io.specs.Refusals.{refused_itself}
 use Rattle.requests.specs.Files.{PortFile, SourceFile}
 use Rattle.forward_io.specs.declared.captured.refused.Refused.{Refused}

@@ -5,8 +5,8 @@ use Rattle.std.specs.Io.KnownBytes.{Appends, Keeps}
 use Rattle.requests.specs.declared.answers.TheConstants.{DONE, REFUSED}
 use Rattle.requests.specs.declared.refusal.Refusal.{Refusal}
 use Rattle.forwarding.specs.declared.report.FlowReport.{FlowReport}
-use Rattle.forward_config.specs.Configs.{FitsIn}
-use Rattle.forward_config.specs.declared.config.Config.{Config}
+use Rattle.settings.specs.Configs.{FitsIn}
+use Rattle.settings.specs.declared.config.Config.{Config}
 use Rattle.wire_script.specs.Frame.{Frame}
 use Rattle.wire_script.specs.Script.{script_of}
 use Rattle.refusals.specs.declared.errors.ScriptError.{ScriptError}

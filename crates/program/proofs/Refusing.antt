@@ -4,8 +4,8 @@ use Rattle.std.specs.Prelude.{◌⊎◌, Result, Ok, Err}
 use Rattle.refusals.specs.declared.errors.ForwardError.{ForwardError}
 use Rattle.refusals.specs.declared.errors.ForwardError.TheVariants as forward
 use Rattle.teams.specs.Refusals.{Halted}
-use Rattle.forward_config.specs.Configs.{FitsIn}
-use Rattle.forward_config.specs.declared.config.Config.{Config}
+use Rattle.settings.specs.Configs.{FitsIn}
+use Rattle.settings.specs.declared.config.Config.{Config}
 use Rattle.wire_script.specs.Frame.{Frame}
 use Rattle.wire_script.specs.Script.{script_of}
 use Rattle.wire_script.specs.ScriptError.{Fails}

@@ -16,7 +16,7 @@ use Rattle.forward_io.specs.Meanings.{meant, capture_meant, lines_meant}
 use Rattle.requests.specs.declared.conversion.CaptureRequest.{CaptureRequest}
 use Rattle.requests.specs.declared.refusal.Refusal.{Refusal}
 use Rattle.program.proofs.Endings.{kept as script-kept}
-use Rattle.forward_config.specs.declared.config.Config.{Config}
+use Rattle.settings.specs.declared.config.Config.{Config}
 use Rattle.requests.specs.declared.printing.Printing.{Printing}
 use Rattle.capture.specs.declared.options.ReadOptions.{ReadOptions}
 use Rattle.forward_io.specs.Intakes.{FrameIntake}

@@ -5,7 +5,7 @@ use Rattle.requests.specs.declared.refusal.Refusal.TheVariants as refusal
 use Rattle.forwarding.specs.declared.report.FlowReport.{FlowReport}
 use Rattle.program.specs.Forwards.{AreReports, IsUnforwarded}
 use Rattle.forward_io.specs.Streams.{Outlet, output_bytes}
-use Rattle.forward_config.specs.declared.config.Config.{Config}
+use Rattle.settings.specs.declared.config.Config.{Config}
 use Rattle.wire_script.specs.Frame.{Frame}
 use Rattle.forward_io.specs.declared.captured.refused.Place.TheVariants.{Command}
 use Rattle.forward_io.specs.declared.captured.refused.Refused.{Refused}

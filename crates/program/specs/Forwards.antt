@@ -7,9 +7,9 @@ use Rattle.requests.specs.declared.refusal.Refusal.{Refusal}
 use Rattle.requests.specs.declared.refusal.Refusal.TheVariants as refusal
 use Rattle.flows.specs.Reports.{IsReport}
 use Rattle.forwarding.specs.declared.report.FlowReport.{FlowReport}
-use Rattle.forward_config.specs.Configs.{FitsIn}
+use Rattle.settings.specs.Configs.{FitsIn}
 use Rattle.forwarder.specs.Plans.{plan}
-use Rattle.forward_config.specs.declared.config.Config.{Config}
+use Rattle.settings.specs.declared.config.Config.{Config}
 use Rattle.refusals.specs.declared.errors.ForwardError.{ForwardError}
 use Rattle.refusals.specs.declared.errors.ForwardError.TheVariants as forward
 use Rattle.wire_script.specs.Frame.{Frame}

@@ -4,7 +4,7 @@ use Rattle.requests.specs.declared.answers.TheConstants.{DONE, REFUSED}
 use Rattle.program.specs.CaptureForwards.{EndsRefused, PrintsPage}
 use Rattle.program.specs.Forwards.{EndsForward}
 use Rattle.forward_io.specs.Streams.{Outlet, outlet}
-use Rattle.forward_config.specs.declared.config.Config.{Config}
+use Rattle.settings.specs.declared.config.Config.{Config}
 use Rattle.forward_io.specs.Intakes.{FrameIntake}
 use Rattle.forward_io.specs.Meanings.{capture_meant, lines_meant}
 use Rattle.commands.specs.Answers.{Ends, EndsDecode}

@@ -11,7 +11,7 @@ ghost use Rattle.requests.specs.declared.printing.Printing.{Printing};
 ghost use Rattle.forward_io.specs.Intakes.{reads_script};
 ghost use Rattle.forward_io.specs.Streams.{outlet};
 ghost use Rattle.requests.specs.Files.{streamed_port};
-ghost use Rattle.forward_config.specs.declared.config.Config.{Config};
+ghost use Rattle.settings.specs.declared.config.Config.{Config};
 ghost use Rattle.command_line.specs.Sayings.{IsUnshown, Says, Saying};
 
 use crate::captured;

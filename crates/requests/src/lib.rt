@@ -1,11 +1,11 @@
 //! What the program's commands are asked to do, and how they answer: the types that a command line is parsed into, the
 //! refusals, the exit statuses, and how texts and refusals are printed.
-//! Depends on `limits`, `refusals`, `ring_model`, `ring_machine`, `capture`, `schedules`, `text_lines` and `thiserror`.
+//! Depends on `limits`, `refusals`, `ring_model`, `ring_machine`, `capture`, `settings`, `text_lines` and `thiserror`.
 //! Each word of a file and each form of a descriptor has one meaning or none, and each refusal has one number.
 //!
 //! A [`Request`] is for `once`, `decode` or `replay`, a [`CaptureRequest`] for `from-capture` or `to-capture`, and a
 //! [`ScheduleRequest`] or a [`CoverRequest`] for `schedules`. [`Printing`] says how `forward` prints its report, and
-//! [`Source`] and [`WireFile`] are its captures. Its configuration is `Config` of `forward_config`.
+//! [`Source`] and [`WireFile`] are its captures. Its configuration is `Config` of `settings`.
 //!
 //! A command answers with a text ([`print`]) or with a [`Refusal`]: [`refuse`] prints it as one line, and
 //! [`refuse_explained`] adds a second one, which names the option or the input at fault and the expected value.

@@ -1,7 +1,7 @@
 //! The lists that `schedules` prints.
 
 use crate::replay::Shown;
-use schedules::SchedulePlan;
+use settings::SchedulePlan;
 
 /// Lists of moves: the plan of each, the seed, the number of lists, and the text that follows each.
 #[derive(Clone, Copy)]

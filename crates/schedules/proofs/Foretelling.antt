@@ -23,7 +23,7 @@ use Rattle.ring_machine.specs.Queues.{AreQueues, QueueParts, QueuesAgree, Queues
 use Rattle.ring_machine.proofs.QueuesRunning.{did-made, did-refused}
 use Rattle.ring_machine.proofs.shared.Running.{happened-append}
 use Rattle.schedules.specs.declared.drawing.Drawn.{Drawn}
-use Rattle.schedules.specs.declared.plan.SchedulePlan.{SchedulePlan}
+use Rattle.settings.specs.declared.plan.SchedulePlan.{SchedulePlan}
 use Rattle.schedules.specs.Drawing.{Draws, IsDrawn, Surely, allowed, happening, moves_in, world_of}
 
 -- what a step's answer says of it

@@ -1,3 +1,2 @@
 mod Foretelling
-mod Fields
 mod Meeting

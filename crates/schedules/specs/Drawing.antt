@@ -4,8 +4,8 @@ use Rattle.ring_model.specs.shared.Schedules.{next}
 use Rattle.ring_model.specs.Worlds.{QueueMove, World, after_move, can_move, moves_happened, opening_world, IsReachableWorld}
 use Rattle.ring_machine.specs.Queues.{QueueParts, QueuesAgree, queue_move}
 use Rattle.schedules.specs.declared.drawing.Drawn.{Drawn}
-use Rattle.schedules.specs.declared.plan.SchedulePlan.{SchedulePlan}
-use Rattle.schedules.specs.declared.thresholds.Thresholds.{Thresholds}
+use Rattle.settings.specs.declared.plan.SchedulePlan.{SchedulePlan}
+use Rattle.settings.specs.declared.thresholds.Thresholds.{Thresholds}
 
 -- The new queues of the plan.
 abbrev pub world_of : SchedulePlan → World

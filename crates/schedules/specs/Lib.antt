@@ -1,5 +1,4 @@
 pub mod Drawing
-pub mod Thresholds
 pub mod Lists
 pub mod Pairs
 pub mod Told

@@ -4,12 +4,12 @@ ghost use Rattle.ring_machine.specs.Queues.{AreQueues};
 ghost use Rattle.refusals.specs.declared.errors.MachineError.TheVariants.{Memory, RingLength};
 ghost use Rattle.schedules.specs.Drawing.{Draws, IsDrawn, Surely, allowed};
 
-use crate::plan::SchedulePlan;
 use crate::proposing::Proposer;
 use ring_machine::{
     ControlStep, MachineError, Move, QueueNumber, Queues, RxStep, SegmentDescriptor, SegmentLength,
     TxStep,
 };
+use settings::SchedulePlan;
 use std::alloc::Global;
 
 /// A move of a list, and whether it happens at its place.

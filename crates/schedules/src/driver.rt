@@ -2,12 +2,11 @@
 //! determine. The device moves between calls.
 
 use crate::chance::Chance;
-use crate::plan::SchedulePlan;
 use crate::receiving::Receiver;
-use crate::thresholds::Thresholds;
 use crate::transmitting::Transmitter;
 use ring_machine::{Move, QueueNumber};
 use ring_model::Note;
+use settings::{SchedulePlan, Thresholds};
 use std::alloc::{AllocError, Global};
 
 /// One in so many candidates begins a call. With the first of these the driver is faster, with the last the device.

@@ -1,7 +1,7 @@
 //! Lists of moves for queues, drawn from a seed or covering what a queue can do: cases for testing a driver or an emulator
 //! of the controller.
-//! Depends on `ring_machine`, `ring_model`, `ring_laws`, `limits`, `refusals`, `text_lines`, `arrayvec`, `rand`,
-//! `rand_core` and `rand_pcg`.
+//! Depends on `ring_machine`, `ring_model`, `ring_laws`, `limits`, `refusals`, `arrayvec`, `rand`,
+//! `rand_core`, `rand_pcg` and `settings`.
 //! Each list has the requested number of moves, states of each whether it happens, and keeps to the allowed
 //! percentage of moves that do not.
 //!
@@ -19,13 +19,10 @@ pub mod covering;
 mod drawing;
 mod driver;
 mod lane;
-mod plan;
 mod proposing;
 mod receiving;
-mod thresholds;
 mod transmitting;
 mod weights;
 
 pub use drawing::{Drawn, draw};
-pub use plan::SchedulePlan;
-pub use thresholds::Thresholds;
+pub use settings::{SchedulePlan, Thresholds};

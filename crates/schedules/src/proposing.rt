@@ -3,13 +3,13 @@
 use crate::chance::Chance;
 use crate::driver::Driver;
 use crate::lane::Lane;
-use crate::plan::SchedulePlan;
 use crate::weights::{receive_kinds, receive_weights, transmit_kinds, transmit_weights};
 use limits::MOST_PAIRS;
 use ring_machine::{
     ControlStep, Move, QueueNumber, RxStep, SegmentDescriptor, SegmentLength, TxStep,
 };
 use ring_model::Note;
+use settings::SchedulePlan;
 use std::alloc::{AllocError, Global};
 
 /// The state of drawing: the random numbers, and the state of each queue.

@@ -2,10 +2,10 @@
 
 use crate::chance::Chance;
 use crate::lane::Lane;
-use crate::thresholds::Thresholds;
 use limits::BUFFER_BYTES;
 use ring_machine::{RxStep, SegmentLength};
 use ring_model::Note;
+use settings::Thresholds;
 
 /// The number of buffers that the posts of a receive queue go through, from 0.
 const BUFFERS: u16 = 32_768;

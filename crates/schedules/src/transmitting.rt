@@ -2,11 +2,11 @@
 
 use crate::chance::Chance;
 use crate::lane::{MOST_SEGMENTS, frame_bytes};
-use crate::thresholds::Thresholds;
 use arrayvec::ArrayVec;
 use limits::BUFFER_BYTES;
 use ring_machine::{SegmentDescriptor, TxStep};
 use ring_model::Note;
+use settings::Thresholds;
 use std::alloc::{AllocError, Global};
 
 /// The number of buffers that the posts of a transmit queue go through.

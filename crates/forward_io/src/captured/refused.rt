@@ -4,9 +4,9 @@ ghost use Rattle.requests.specs.declared.answers.TheConstants.{REFUSED};
 ghost use Rattle.forward_io.specs.Refusals.{refused_itself};
 
 use crate::explaining::{explain_config, explain_file};
-use forward_config::Config;
 use forwarding::ForwardError;
 use requests::{Refusal, Source, WireFile, refuse_explained};
+use settings::Config;
 use std::alloc::AllocError;
 use std::io::Write;
 

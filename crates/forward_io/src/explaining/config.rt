@@ -1,8 +1,8 @@
 //! Explains a refused configuration.
 
-use forward_config::{Config, LEAST_SHARE};
 use limits::{BUFFER_BYTES, FEWEST_BUFFERS, MOST_BATCH, MOST_BUFFERS, MOST_RS_EVERY};
 use requests::{Source, explain_queues};
+use settings::{Config, LEAST_SHARE};
 use std::alloc::AllocError;
 
 /// Explains why a configuration is refused: the first option that is outside its range, or the first source whose

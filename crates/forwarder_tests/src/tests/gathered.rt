@@ -1,6 +1,6 @@
 //! After forwarding, the pool has all its buffers again.
 ghost use Rattle.std.specs.Prelude.{◌≡◌};
-ghost use Rattle.forward_config.specs.Configs.{FitsIn};
+ghost use Rattle.settings.specs.Configs.{FitsIn};
 ghost use Rattle.pool.specs.Owned.{IsOf};
 ghost use Rattle.pool.specs.declared.hand.TheConstants.{WHOLE_SHARE};
 

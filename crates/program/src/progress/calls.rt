@@ -2,7 +2,7 @@
 ghost use Rattle.std.specs.Prelude.{◌≡◌, ◌⊎◌, ℕ, ◌*◌, ◌<◌, ◌↔◌, IfErr, IfOk, IsErrOf, None, length, slice_index_or, vec_len};
 ghost use Rattle.counters.specs.Paired.{ArePaired};
 ghost use Rattle.flows.specs.Reports.{IsReport};
-ghost use Rattle.forward_config.specs.Configs.{FitsIn};
+ghost use Rattle.settings.specs.Configs.{FitsIn};
 ghost use Rattle.forwarder.specs.Plans.{plan};
 ghost use Rattle.refusals.specs.declared.errors.ForwardError.TheVariants.{Config as ConfigRefused};
 ghost use Rattle.limits.specs.declared.profile.TheConstants.{PORTS};

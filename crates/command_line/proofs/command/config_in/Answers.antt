@@ -1,7 +1,7 @@
 -- Each number and each flag is that of the configuration.
 use Rattle.std.proofs.Common.{ap, Some}
 use Rattle.std.specs.Prelude.{not}
-use Rattle.forward_config.specs.declared.config.Config.{Config}
+use Rattle.settings.specs.declared.config.Config.{Config}
 use Rattle.command_line.proofs.ForwardWords.{config_is}
 use Rattle.command_line.proofs.ReplayWords.{begins_as}
 use Rattle.command_line.proofs.command.config_in.Goals as goal

@@ -1,8 +1,8 @@
 -- The plan has the thresholds that were tested for its rings.
 use Rattle.std.proofs.Common.{sym, subst, Option}
 use Rattle.std.specs.Prelude.{IsSomeAnd}
-use Rattle.schedules.specs.Thresholds.{Fit}
-use Rattle.schedules.specs.declared.thresholds.Thresholds.{Thresholds}
+use Rattle.settings.specs.Thresholds.{Fit}
+use Rattle.settings.specs.declared.thresholds.Thresholds.{Thresholds}
 use Rattle.command_line.proofs.drivers.driven_in.Goals as goal
 
 pub returns-clause-follows : goal.returns-clause-follows

@@ -1,7 +1,7 @@
 -- The text, the ring length and the options are those of the matches.
 use Rattle.std.proofs.Common.{◌≡◌, ◌∙◌, ap, sym, subst, ℕ, Option, Some, unwrap_or}
 use Rattle.clap.specs.Words.{Text}
-use Rattle.schedules.specs.Thresholds.{Fit, IsThresholds}
+use Rattle.settings.specs.Thresholds.{Fit, IsThresholds}
 use Rattle.command_line.proofs.drivers.driver_fault_in.Goals as goal
 
 same : (read said : Text) → Some read ≡ Some said → read ≡ said

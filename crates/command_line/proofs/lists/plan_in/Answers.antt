@@ -2,8 +2,8 @@
 use Rattle.std.proofs.Common.{◌≡◌, ap, refl, ℕ, Bool, Option, Some}
 use Rattle.std.specs.Prelude.{not}
 use Rattle.ring_model.specs.declared.states.Completion.{Completion}
-use Rattle.schedules.specs.declared.plan.SchedulePlan.{SchedulePlan}
-use Rattle.schedules.specs.declared.thresholds.Thresholds.{Thresholds}
+use Rattle.settings.specs.declared.plan.SchedulePlan.{SchedulePlan}
+use Rattle.settings.specs.declared.thresholds.Thresholds.{Thresholds}
 use Rattle.command_line.proofs.ReplayWords.{begins_as}
 use Rattle.command_line.proofs.lists.plan_in.Goals as goal
 

@@ -1,7 +1,7 @@
 -- The request has the numbers of the recommended lists, and the queues and what is expected that the words say.
 use Rattle.std.proofs.Common.{◌≡◌, ◌∙◌, ap, sym, true, false, Option, Some, None, unwrap_or}
 use Rattle.requests.specs.declared.replay.Shown.{Shown}
-use Rattle.schedules.specs.declared.plan.SchedulePlan.{SchedulePlan}
+use Rattle.settings.specs.declared.plan.SchedulePlan.{SchedulePlan}
 use Rattle.requests.specs.declared.lists.ScheduleRequest.{ScheduleRequest}
 use Rattle.command_line.proofs.RequestParts.{request-from}
 use Rattle.command_line.proofs.lists.recommended_in.Goals as goal

@@ -1,7 +1,7 @@
 -- The plan, the numbers and what is expected are those of the request.
 use Rattle.std.proofs.Common.{◌≡◌, ap, sym, Option, Some, None, unwrap_or}
 use Rattle.requests.specs.declared.replay.Shown.{Shown}
-use Rattle.schedules.specs.declared.plan.SchedulePlan.{SchedulePlan}
+use Rattle.settings.specs.declared.plan.SchedulePlan.{SchedulePlan}
 use Rattle.requests.specs.declared.lists.ScheduleRequest.{ScheduleRequest}
 use Rattle.command_line.proofs.RequestParts.{request-from}
 use Rattle.command_line.proofs.lists.schedules_in.Goals as goal

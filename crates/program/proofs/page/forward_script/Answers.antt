@@ -1,7 +1,7 @@
 use Rattle.std.proofs.Common.{refl, rules}
 use Rattle.std.proofs.lemmas.Result.{err_from_is_err_and}
 use Rattle.teams.specs.declared.gate.Open.{Open}
-use Rattle.forward_config.specs.Configs.{FitsIn}
+use Rattle.settings.specs.Configs.{FitsIn}
 use Rattle.program.proofs.Refusing.{fits-then, unrun}
 use Rattle.program.proofs.page.forward_script.Goals as goal
 

@@ -1,8 +1,8 @@
 -- The name of a field has no `=`, so the first one is behind it.
 use Rattle.std.proofs.Common.{◌≡◌, ◌∙◌, sym, Some, None, false, true}
 use Rattle.std.proofs.lemmas.Slice.Eq.{bytes_eq-Decides}
-use Rattle.schedules.proofs.Fields.{field-cut, value-found, value-missing}
-use Rattle.schedules.proofs.thresholds.value_of.Goals as goal
+use Rattle.settings.proofs.Fields.{field-cut, value-found, value-missing}
+use Rattle.settings.proofs.thresholds.value_of.Goals as goal
 
 pub returns-in_err-value : goal.returns-in_err-value
 returns-in_err-value c n = (

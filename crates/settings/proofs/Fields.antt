@@ -7,8 +7,8 @@ use Rattle.std.proofs.lemmas.Bool.{and_parts}
 use Rattle.std.proofs.lemmas.Bool.Decides.{nat_tests}
 use Rattle.std.proofs.lemmas.List.Elements.{All-from_recursion}
 use Rattle.std.proofs.lemmas.List.Splits.{join_with_byte-slice_split, length-slice_split, slice_split_at}
-use Rattle.schedules.specs.Thresholds.{HasValue, HaveThresholds, IsThresholds, field_text}
-use Rattle.schedules.specs.declared.thresholds.Thresholds.{Thresholds}
+use Rattle.settings.specs.Thresholds.{HasValue, HaveThresholds, IsThresholds, field_text}
+use Rattle.settings.specs.declared.thresholds.Thresholds.{Thresholds}
 use Rattle.text_lines.proofs.Decimals.{decimal_digits}
 use Rattle.text_lines.specs.Parts.{later_parts, parts}
 

@@ -1,8 +1,8 @@
 //! The thresholds of a poll-mode driver.
 ghost use Rattle.std.specs.Prelude.{◌≡◌, ◌+◌, ◌<◌, ◌↔◌, ℕ, ◌==◌, Some, IsTrue, true, not};
 ghost use Rattle.std.specs.List.{list_all};
-ghost use Rattle.schedules.specs.Thresholds.{Fit, FitTransmit, HasValue, HaveThresholds, IsThresholds};
-ghost use Rattle.schedules.specs.declared.thresholds.Thresholds.{Thresholds as Driver};
+ghost use Rattle.settings.specs.Thresholds.{Fit, FitTransmit, HasValue, HaveThresholds, IsThresholds};
+ghost use Rattle.settings.specs.declared.thresholds.Thresholds.{Thresholds as Driver};
 
 use text_lines::{cut, number_in};
 

@@ -6,8 +6,8 @@ use Rattle.limits.specs.FillSize.{IsFillSize}
 use Rattle.limits.specs.declared.profile.TheConstants.{MOST_BATCH}
 use Rattle.ring_model.specs.declared.states.Completion.TheVariants.{Status}
 use Rattle.wire_script.specs.Frame.{Frame}
-use Rattle.forward_config.specs.declared.config.Config.{Config}
-use Rattle.forward_config.specs.declared.config.TheConstants.{LEAST_SHARE}
+use Rattle.settings.specs.declared.config.Config.{Config}
+use Rattle.settings.specs.declared.config.TheConstants.{LEAST_SHARE}
 
 abbrev pub default_config : Config
 default_config = record {

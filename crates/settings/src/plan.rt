@@ -1,7 +1,7 @@
 //! The plan of a list of moves.
 
 use crate::thresholds::Thresholds;
-use ring_machine::Completion;
+use ring_model::Completion;
 
 /// The queues that a list of moves is drawn for, its length, and how many of its moves may be refused.
 #[derive(Clone, Copy)]

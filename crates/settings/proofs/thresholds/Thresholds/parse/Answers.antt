@@ -1,7 +1,7 @@
 -- Each cut takes off one field, since no field has a comma.
 use Rattle.std.proofs.Common.{◌≡◌, ◌∙◌, ap, sym, Some, None}
-use Rattle.schedules.proofs.Fields.{one-field, three-fields, two-fields}
-use Rattle.schedules.proofs.thresholds.Thresholds.parse.Goals as goal
+use Rattle.settings.proofs.Fields.{one-field, three-fields, two-fields}
+use Rattle.settings.proofs.thresholds.Thresholds.parse.Goals as goal
 use Rattle.text_lines.specs.Parts.{parts}
 
 pub returns-in_err-rest : goal.returns-in_err-rest

@@ -1,6 +1,6 @@
 -- The thresholds of a poll-mode driver: their text, and the rings that they fit.
 use Rattle.std.specs.Prelude.{◌≡◌, ℕ, ◌+◌, ◌%◌, ◌^◌, ◌<◌, ◌≤◌, List, ◌∷◌, ◌++◌, codes, decimal}
-use Rattle.schedules.specs.declared.thresholds.Thresholds.{Thresholds}
+use Rattle.settings.specs.declared.thresholds.Thresholds.{Thresholds}
 
 -- A field `NAME=VALUE`.
 abbrev pub field_text : List ℕ → ℕ → List ℕ

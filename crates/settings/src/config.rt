@@ -1,7 +1,7 @@
 //! The configuration of a forwarder.
 ghost use Rattle.std.specs.Prelude.{◌≡◌, ◌<◌, ◌↔◌, All, IsTrue, IsOk, IfErr};
 ghost use Rattle.refusals.specs.declared.errors.ForwardError.TheVariants.{Config as ConfigRefused};
-ghost use Rattle.forward_config.specs.Configs.{IsLawful, HasLawfulQueues, HasLawfulBuffers, HasLawfulWork, FitsIn};
+ghost use Rattle.settings.specs.Configs.{IsLawful, HasLawfulQueues, HasLawfulBuffers, HasLawfulWork, FitsIn};
 
 use limits::{
     FEWEST_BUFFERS, MOST_BATCH, MOST_BUFFERS, MOST_PAIRS, MOST_RS_EVERY, is_fill_size,
@@ -46,7 +46,7 @@ pub struct Config {
 
 impl Default for Config {
     ghost use Rattle.std.specs.Prelude.{◌≡◌};
-    ghost use Rattle.forward_config.specs.Configs.{default_config};
+    ghost use Rattle.settings.specs.Configs.{default_config};
 
     ghost is_default = { λ c. c ≡ default_config };
 
