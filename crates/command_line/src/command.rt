@@ -56,7 +56,7 @@ const NOT_EXPECTED: &str = "--json and --registers need --expect";
 /// The request of a command line.
 #[derive(Clone, Copy)]
 pub enum Asked<'a> {
-    /// A request of `commands`.
+    /// A request for `once`, `decode` or `replay`.
     Request(Request<'a>),
     /// Forwards the script of standard input, or captures, and prints the report. [`files_of`](crate::files_of) returns
     /// the files that the words name.

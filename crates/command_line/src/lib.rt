@@ -1,11 +1,9 @@
-//! The command line of the program `poll82599`: it parses the words and runs the command that they name. It depends on
-//! all command crates, and is the only crate that uses `clap`. Its contracts, over `clap`'s definitions, pin which
-//! words are which request; mistaken words are never taken for one.
+//! The command line of the program `poll82599`: it parses the words into what a command is asked to do.
+//! Depends on `requests`, `settings`, `capture`, `ring_model`, `limits` and `clap`; it knows no command.
+//! Its contracts, over `clap`'s definitions, pin which words are which request; mistaken words are never taken for one.
 //!
-//! [`asked_of`] parses the words after the program's name into a request of `commands`, a configuration of
-//! `forward_io`, a request of its captures, or a request of `schedule_command`. [`files_of`]
-//! parses the files of a forwarding. [`run`] serves the request, or prints the help or the error of `clap`, and returns
-//! the exit status.
+//! [`asked_of`] parses the words after the program's name: a request of `requests`, or a configuration of `settings` and
+//! how its report is printed. [`files_of`] parses the files of a forwarding. The crate `program` serves what is asked.
 #![tactic(auto)]
 
 mod arguments;

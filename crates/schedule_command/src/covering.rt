@@ -3,8 +3,8 @@
 //! comment names.
 //!
 //! [`perform`] searches the states of a receive queue and then of a transmit queue, and prints the lists for a
-//! [`CoverRequest`]. [`answer`] also prints refusals and returns an exit status. Refusals are those of `commands`,
-//! whose `replay` computes the expected outcome.
+//! [`CoverRequest`]. [`answer`] also prints refusals and returns an exit status. `replay` of `commands` computes the
+//! expected outcome.
 
 mod answering;
 mod listing;

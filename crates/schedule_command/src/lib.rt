@@ -1,11 +1,11 @@
 //! The command `schedules`: drawn lists of moves for testing a driver or an emulator of the controller, and their
 //! expected outcomes.
-//! Depends on `schedules`, `coverage`, `commands`, `ring_machine` and `ring_model`.
+//! Depends on `requests`, `schedules`, `commands`, `ring_machine` and `ring_model`.
 //! A successful request prints exactly the requested lists. If the queues cannot exist, nothing is printed.
 //!
 //! [`perform`] draws the lists of a [`ScheduleRequest`] and prints each as soon as it is drawn. [`answer`] also
-//! prints refusals and returns an exit status. Refusals are those of `commands`, whose `replay` computes the expected
-//! outcome. [`covering`] is `schedules --cover`.
+//! prints refusals and returns an exit status. `replay` of `commands` computes the expected outcome.
+//! [`covering`] is `schedules --cover`.
 #![tactic(auto)]
 
 mod answering;
