@@ -1,6 +1,7 @@
 //! Frame buffers, packets of them, and plain stocks of them.
 //! Depends on `limits`, `refusals` and `arrayvec`.
-//! A buffer is never copied, and the numbers in a stock together with those that are out are its range, each once.
+//! Guarantees that a buffer is never copied, and that the numbers in a stock together with those that are out are its
+//! range, each once.
 //!
 //! A [`Buf`] is one buffer of a port: its number, which names it on the descriptor rings, and the bytes of one segment.
 //! A [`Packet`] is the list of the buffers of one frame, linked on the heap. It takes 24 bytes, and its bytes are read

@@ -5,7 +5,7 @@ use Rattle.refusals.specs.declared.errors.CaptureError.{CaptureError}
 use Rattle.refusals.specs.declared.errors.CaptureError.TheVariants.{Memory}
 use Rattle.capture.specs.declared.entry.Entry.{Entry}
 use Rattle.capture.specs.declared.entry.FaultyRecord.{FaultyRecord}
-use Rattle.capture.specs.declared.header.Form.{Form}
+use Rattle.capture.specs.declared.header.CaptureForm.{CaptureForm}
 use Rattle.capture.specs.declared.piece.Piece.{Piece}
 use Rattle.capture.specs.declared.piece.Piece.TheVariants.{Packet, Section, Described, Other}
 use Rattle.capture.specs.CaptureError.{Answers, Fails}
@@ -82,7 +82,7 @@ unfolding fault_details
 header_faulty k bytes e bad = refused e (fault_details k bytes) (rw bad refl)
 
 -- the packet is found
-pub answered : (k n : ℕ) (bytes rest : List ℕ) (form : Form) (r : Result (Option FaultyRecord) CaptureError) → header_in bytes ≡ Ok (form, rest) → n ≡ k - 1
+pub answered : (k n : ℕ) (bytes rest : List ℕ) (form : CaptureForm) (r : Result (Option FaultyRecord) CaptureError) → header_in bytes ≡ Ok (form, rest) → n ≡ k - 1
     → IfOk r (λ found. found ≡ fault_after n (entries_in (source_of form) rest)) → IfErr r (λ e. e ≡ Memory) → Answers r (fault_details k bytes)
 unfolding fault_details
 answered k n bytes rest form (Ok found) good same is refused = rw (good, is, same) refl

@@ -2,7 +2,7 @@
 use Rattle.std.proofs.Common.{◌≡◌, List, ℕ, false, None, Result, Ok, Err, refl, sym, ap, ◌∙◌}
 use Rattle.refusals.specs.declared.errors.CaptureError.{CaptureError}
 use Rattle.capture.specs.CaptureError.{◌>>=◌, Fails}
-use Rattle.capture.specs.declared.header.Form.{Form}
+use Rattle.capture.specs.declared.header.CaptureForm.{CaptureForm}
 use Rattle.capture.specs.declared.options.ReadOptions.{ReadOptions}
 use Rattle.capture.specs.declared.options.Skipped.{Skipped}
 use Rattle.capture.specs.Choosing.{chosen}
@@ -12,7 +12,7 @@ use Rattle.capture.specs.Record.{Record}
 use Rattle.capture.proofs.Chosen.{carried, refused}
 
 -- the frames with the unit of their times
-abbrev pub with_unit : Form → Result (List Record × Skipped) CaptureError → Result (Content × Skipped) CaptureError
+abbrev pub with_unit : CaptureForm → Result (List Record × Skipped) CaptureError → Result (Content × Skipped) CaptureError
 with_unit form r = r >>= λ found. Ok (record { unit = form.unit; records = found.0 }, found.1)
 
 -- the header is refused
@@ -21,13 +21,13 @@ unfolding capture_with
 header_faulty options bytes e bad = refused e (capture_with options bytes) (rw bad refl)
 
 -- the header is good
-pub read_on : (options : ReadOptions) (bytes rest : List ℕ) (form : Form) → header_in bytes ≡ Ok (form, rest)
+pub read_on : (options : ReadOptions) (bytes rest : List ℕ) (form : CaptureForm) → header_in bytes ≡ Ok (form, rest)
     → capture_with options bytes ≡ with_unit form (chosen options (entries_in (source_of form) rest))
 unfolding capture_with
 read_on options bytes rest form good = rw good refl
 
 -- a record is refused
-pub record_faulty : (options : ReadOptions) (bytes rest : List ℕ) (form : Form) (e : CaptureError) → header_in bytes ≡ Ok (form, rest)
+pub record_faulty : (options : ReadOptions) (bytes rest : List ℕ) (form : CaptureForm) (e : CaptureError) → header_in bytes ≡ Ok (form, rest)
     → Fails e (chosen options (entries_in (source_of form) rest)) → Fails e (capture_with options bytes)
 record_faulty options bytes rest form e good bad =
     carried e (chosen options (entries_in (source_of form) rest)) (capture_with options bytes)

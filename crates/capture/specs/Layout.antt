@@ -1,7 +1,7 @@
 -- The layout of the header and of a record in the bytes of a classic capture.
 use Rattle.std.specs.Prelude.{ℕ, ◌==◌, if◌then◌else◌, List, drop, Option, Some, None}
 use Rattle.byteorder.specs.Endian.{big_number, little_number}
-use Rattle.capture.specs.declared.header.Form.{Form}
+use Rattle.capture.specs.declared.header.CaptureForm.{CaptureForm}
 use Rattle.capture.specs.declared.header.Format.TheVariants.{Classic}
 use Rattle.capture.specs.declared.header.Order.{Order}
 use Rattle.capture.specs.declared.header.Order.TheVariants.{Big, Little}
@@ -18,7 +18,7 @@ numbers_in Little = little_number
 
 -- The form for the first four bytes, read as a big-endian number: 0xa1b2c3d4 for microseconds and 0xa1b23c4d for
 -- nanoseconds, each in either byte order.
-abbrev pub form_of : ℕ → Option Form
+abbrev pub form_of : ℕ → Option CaptureForm
 form_of magic =
     if magic == 2712847316 then Some (record { format = Classic; order = Big; unit = Micros })
     else if magic == 2712812621 then Some (record { format = Classic; order = Big; unit = Nanos })

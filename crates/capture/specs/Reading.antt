@@ -3,7 +3,7 @@ use Rattle.std.specs.Prelude.{ℕ, ◌==◌, nat_lt, ◌&&◌, not, Bool, false,
 use Rattle.byteorder.specs.Endian.{big_number}
 use Rattle.refusals.specs.declared.errors.CaptureError.{CaptureError}
 use Rattle.refusals.specs.declared.errors.CaptureError.TheVariants.{NotCapture, LinkType}
-use Rattle.capture.specs.declared.header.Form.{Form}
+use Rattle.capture.specs.declared.header.CaptureForm.{CaptureForm}
 use Rattle.capture.specs.declared.header.Format.TheVariants.{Blocks}
 use Rattle.capture.specs.declared.header.Order.TheVariants.{Big}
 use Rattle.capture.specs.declared.header.TimeUnit.{TimeUnit}
@@ -25,36 +25,36 @@ pub record Content : Type 0 where
   pub records : List Record
 
 -- A header of version 2.4 for Ethernet, or its first fault.
-unfoldable pub checked_header : Numbers → Form → List ℕ → Result Form CaptureError
+unfoldable pub checked_header : Numbers → CaptureForm → List ℕ → Result CaptureForm CaptureError
 checked_header number form bytes =
     if not (major_in number bytes == 2 && minor_in number bytes == 4) then Err NotCapture
     else if not (link_type_in number bytes == 1) then Err LinkType
     else Ok form
 
 -- The header of this form.
-abbrev pub header_with : Option Form → List ℕ → Result Form CaptureError
+abbrev pub header_with : Option CaptureForm → List ℕ → Result CaptureForm CaptureError
 header_with None bytes = Err NotCapture
 header_with (Some form) bytes = checked_header (numbers_in form.order) form bytes
 
 -- The header of classic pcap at the start of the bytes.
-unfoldable pub classic_header_in : List ℕ → Result Form CaptureError
+unfoldable pub classic_header_in : List ℕ → Result CaptureForm CaptureError
 classic_header_in bytes = if nat_lt (length bytes) 24 then Err NotCapture else header_with (form_of (big_number 4 bytes)) bytes
 
 -- A pcapng file begins with a section header, which determines the byte order. Its times are read as nanoseconds.
 abbrev pub is_blocks : List ℕ → Bool
 is_blocks bytes = not (nat_lt (length bytes) 4) && is_section bytes
 
-abbrev pub form_with : Piece → List ℕ → Result (Form × List ℕ) CaptureError
+abbrev pub form_with : Piece → List ℕ → Result (CaptureForm × List ℕ) CaptureError
 form_with (Section order) rest = Ok (record { format = Blocks; order = order; unit = Nanos }, rest)
 form_with (Packet entry) rest = Err NotCapture
 form_with (Described interface) rest = Err NotCapture
 form_with Other rest = Err NotCapture
 
-unfoldable pub blocks_header_in : List ℕ → Result (Form × List ℕ) CaptureError
+unfoldable pub blocks_header_in : List ℕ → Result (CaptureForm × List ℕ) CaptureError
 blocks_header_in bytes = let p = block_in Big [] bytes in form_with p.0 p.1
 
 -- The form of the capture, and its bytes after the header.
-unfoldable pub header_in : List ℕ → Result (Form × List ℕ) CaptureError
+unfoldable pub header_in : List ℕ → Result (CaptureForm × List ℕ) CaptureError
 header_in bytes =
     if is_blocks bytes then blocks_header_in bytes
     else do

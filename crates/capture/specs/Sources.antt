@@ -1,7 +1,7 @@
 -- All packets of a capture, in the order of its records or blocks.
 use Rattle.std.specs.Prelude.{ℕ, suc, zero, List, [], ◌∷◌, ◌++◌, length}
 use Rattle.capture.specs.declared.entry.Entry.{Entry}
-use Rattle.capture.specs.declared.header.Form.{Form}
+use Rattle.capture.specs.declared.header.CaptureForm.{CaptureForm}
 use Rattle.capture.specs.declared.header.Format.{Format}
 use Rattle.capture.specs.declared.header.Format.TheVariants.{Classic, Blocks}
 use Rattle.capture.specs.declared.header.Order.{Order}
@@ -18,7 +18,7 @@ pub record Source : Type 0 where
   pub interfaces : List Interface
 
 -- The state after the header.
-abbrev pub source_of : Form → Source
+abbrev pub source_of : CaptureForm → Source
 source_of form = record { format = form.format; order = form.order; interfaces = [] }
 
 -- The first piece in the bytes, and the bytes after it.

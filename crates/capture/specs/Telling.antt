@@ -11,7 +11,7 @@ use Rattle.capture.specs.declared.entry.Fault.TheVariants.{Truncated, Snapped, L
 use Rattle.capture.specs.declared.entry.FaultyRecord.{FaultyRecord}
 use Rattle.capture.specs.declared.piece.Piece.{Piece}
 use Rattle.capture.specs.declared.piece.Piece.TheVariants.{Packet, Section, Described, Other}
-use Rattle.capture.specs.declared.header.Form.{Form}
+use Rattle.capture.specs.declared.header.CaptureForm.{CaptureForm}
 use Rattle.capture.specs.CaptureError.{◌>>=◌}
 use Rattle.capture.specs.Layout.{form_of, link_type_in, numbers_in}
 use Rattle.capture.specs.Reading.{header_in}
@@ -45,7 +45,7 @@ name_of_link_type n =
     else None
 
 -- The link type in a classic pcap header of any version.
-abbrev pub link_type_with : Option Form → List ℕ → Option ℕ
+abbrev pub link_type_with : Option CaptureForm → List ℕ → Option ℕ
 link_type_with None bytes = None
 link_type_with (Some form) bytes = Some (link_type_in (numbers_in form.order) bytes)
 

@@ -8,7 +8,7 @@ ghost use Rattle.capture.specs.Telling.{fault_after, fault_details, fault_in_pie
 
 use crate::cursor::Cursor;
 use crate::entry::{Entry, FaultyRecord};
-use crate::header::Form;
+use crate::header::CaptureForm;
 use crate::piece::Piece;
 use crate::reading::header_of;
 use refusals::CaptureError;
@@ -31,7 +31,7 @@ pub fn fault_details(
 // The fault of the packet after `others` other packets.
 fn fault_after(
     alloc: Global,
-    form: Form,
+    form: CaptureForm,
     bytes: &[u8],
     others: u64,
 ) -> Result<Option<FaultyRecord>, CaptureError>

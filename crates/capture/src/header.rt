@@ -26,14 +26,14 @@ pub enum Format {
 
 /// The format, byte order and time unit of a capture.
 #[derive(Clone, Copy)]
-pub struct Form {
+pub struct CaptureForm {
     pub format: Format,
     pub order: Order,
     pub unit: TimeUnit,
 }
 
 /// The form for a magic number of classic pcap, read as big-endian.
-pub fn form_of(magic: u32) -> Option<Form>
+pub fn form_of(magic: u32) -> Option<CaptureForm>
     ensures { result ≡ form_of magic }
 {
     let (order, unit) = match magic {
@@ -44,7 +44,7 @@ pub fn form_of(magic: u32) -> Option<Form>
         _ => return None,
     };
     let format = Format::Classic;
-    Some(Form {
+    Some(CaptureForm {
         format,
         order,
         unit,

@@ -1,7 +1,7 @@
 //! Reading and writing Ethernet captures, as tcpdump and Wireshark write them: classic pcap 2.4 and pcapng version 1.
 //! Depends on `wire_script`, `limits`, `refusals` and `byteorder`.
-//! Unless memory is refused, the bytes determine the result of [`read`]. It returns the records that [`write`] wrote,
-//! up to its limit on their number.
+//! Guarantees that, unless memory is refused, the bytes determine the result of [`read`], and that it returns the
+//! records that [`write`] wrote, up to its limit on their number.
 //!
 //! A classic capture is a header of 24 bytes, followed by records. A record is a header of 16 bytes (time, captured
 //! length, length on the wire), followed by the captured bytes. The first four bytes of the file determine the byte

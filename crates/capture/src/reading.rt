@@ -14,7 +14,7 @@ use crate::content::Capture;
 use crate::cursor::Cursor;
 use crate::fields::{half, word};
 use crate::gathered::Gathered;
-use crate::header::{Form, Format, Order, TimeUnit, form_of};
+use crate::header::{CaptureForm, Format, Order, TimeUnit, form_of};
 use crate::options::{ReadOptions, Skipped};
 use crate::piece::Piece;
 use crate::record::CaptureRecord;
@@ -68,7 +68,7 @@ pub fn read_with(
 
 // The form of the capture, and its bytes after the header.
 #[tactic(auto, unfolding(crate::specs::Reading::header_in))]
-pub(crate) fn header_of(bytes: &[u8]) -> Result<(Form, &[u8]), CaptureError>
+pub(crate) fn header_of(bytes: &[u8]) -> Result<(CaptureForm, &[u8]), CaptureError>
     ensures { MatchResult result (λ p. header_in bytes.now ≡ Ok (p.0, p.1.now)) (λ e. header_in bytes.now ≡ Err e) }
 {
     if 4 <= bytes.len() && begins_section(bytes) {
@@ -80,7 +80,7 @@ pub(crate) fn header_of(bytes: &[u8]) -> Result<(Form, &[u8]), CaptureError>
 
 // The section header at the start of a pcapng file, and the bytes after it.
 #[tactic(auto, unfolding(crate::specs::Reading::blocks_header_in))]
-fn blocks_header_of(bytes: &[u8]) -> Result<(Form, &[u8]), CaptureError>
+fn blocks_header_of(bytes: &[u8]) -> Result<(CaptureForm, &[u8]), CaptureError>
     requires { 4 ≤ length bytes.now }
     ensures { MatchResult result (λ p. blocks_header_in bytes.now ≡ Ok (p.0, p.1.now)) (λ e. blocks_header_in bytes.now ≡ Err e) }
 {
@@ -88,7 +88,7 @@ fn blocks_header_of(bytes: &[u8]) -> Result<(Form, &[u8]), CaptureError>
     let Piece::Section(order) = piece else {
         return Err(CaptureError::NotCapture);
     };
-    let form = Form {
+    let form = CaptureForm {
         format: Format::Blocks,
         order,
         unit: TimeUnit::Nanos,
@@ -98,7 +98,7 @@ fn blocks_header_of(bytes: &[u8]) -> Result<(Form, &[u8]), CaptureError>
 
 // The header of classic pcap at the start of the bytes.
 #[tactic(auto, unfolding(crate::specs::Reading::classic_header_in))]
-fn classic_header_of(bytes: &[u8]) -> Result<Form, CaptureError>
+fn classic_header_of(bytes: &[u8]) -> Result<CaptureForm, CaptureError>
     ensures value { result ≡ classic_header_in bytes.now }
     ensures there { IfOk result (λ form. HEADER ≤ length bytes.now) }
 {
@@ -113,7 +113,7 @@ fn classic_header_of(bytes: &[u8]) -> Result<Form, CaptureError>
 
 // Checks the version and link type in a header of this form.
 #[tactic(auto, unfolding(crate::specs::Reading::checked_header))]
-fn checked(form: Form, bytes: &[u8]) -> Result<Form, CaptureError>
+fn checked(form: CaptureForm, bytes: &[u8]) -> Result<CaptureForm, CaptureError>
     requires { HEADER ≤ length bytes.now }
     ensures { result ≡ checked_header (numbers_in form.order) form bytes.now }
 {
@@ -130,7 +130,7 @@ fn checked(form: Form, bytes: &[u8]) -> Result<Form, CaptureError>
 // The frames that the options select, and the counts of records left out.
 fn chosen_of<'a>(
     alloc: Global,
-    form: Form,
+    form: CaptureForm,
     bytes: &'a [u8],
     options: ReadOptions,
 ) -> Result<(Vec<CaptureRecord<'a>>, Skipped), CaptureError>

@@ -115,26 +115,22 @@ places_said skip port queue limit = ((Some (digit port), Some (digit queue)), (S
 abbrev held_after : List Text → Held
 held_after words = (walk from_shape.rules [] nothing_held words).held
 
--- without a limit
-abbrev TakesAll : Bool → ℕ → ℕ → Type 0
-TakesAll skip port queue = Takes (from_words skip port queue [])
+-- without a limit: whether clap takes them, and what it finds
+abbrev Unlimited : Type 0
+Unlimited = Bool × Places
 
-takes_all : (skip : Bool) (port queue : ℕ) → port < PORTS → queue < MOST_PAIRS → TakesAll skip port queue
+abbrev unlimited_facts : Bool → ℕ → ℕ → Unlimited
+unlimited_facts skip port queue = let words = from_words skip port queue [] in (level_passes from_shape [] nothing_held words false, places_of (held_after words))
+
+abbrev IsUnlimited : Bool → ℕ → ℕ → Type 0
+IsUnlimited skip port queue = unlimited_facts skip port queue ≡ (true, places_said skip port queue None)
+
+is_unlimited : (skip : Bool) (port queue : ℕ) → port < PORTS → queue < MOST_PAIRS → IsUnlimited skip port queue
 unfolding clap_on_literals
-takes_all true port queue port_is queue_is =
-    each-place (TakesAll true) port queue port_is queue_is refl refl refl refl refl refl refl refl refl refl refl refl refl refl refl refl
-takes_all false port queue port_is queue_is =
-    each-place (TakesAll false) port queue port_is queue_is refl refl refl refl refl refl refl refl refl refl refl refl refl refl refl refl
-
-abbrev FindsAll : Bool → ℕ → ℕ → Type 0
-FindsAll skip port queue = places_of (held_after (from_words skip port queue [])) ≡ places_said skip port queue None
-
-finds_all : (skip : Bool) (port queue : ℕ) → port < PORTS → queue < MOST_PAIRS → FindsAll skip port queue
-unfolding clap_on_literals
-finds_all true port queue port_is queue_is =
-    each-place (FindsAll true) port queue port_is queue_is refl refl refl refl refl refl refl refl refl refl refl refl refl refl refl refl
-finds_all false port queue port_is queue_is =
-    each-place (FindsAll false) port queue port_is queue_is refl refl refl refl refl refl refl refl refl refl refl refl refl refl refl refl
+is_unlimited true port queue port_is queue_is =
+    each-place (IsUnlimited true) port queue port_is queue_is refl refl refl refl refl refl refl refl refl refl refl refl refl refl refl refl
+is_unlimited false port queue port_is queue_is =
+    each-place (IsUnlimited false) port queue port_is queue_is refl refl refl refl refl refl refl refl refl refl refl refl refl refl refl refl
 
 -- with a limit: the walk up to its number, and what is met there
 abbrev limited : Bool → ℕ → ℕ → Text → List Text
@@ -206,13 +202,13 @@ finds_limited skip port queue word port_is queue_is number =
 
 -- with or without it
 takes_from : (skip : Bool) (port queue : ℕ) (limit : Option ℕ) → port < PORTS → queue < MOST_PAIRS → IsLimit limit → Takes (from_words skip port queue (limit_words limit))
-takes_from skip port queue None port_is queue_is fits = takes_all skip port queue port_is queue_is
+takes_from skip port queue None port_is queue_is fits = ap (λ (f : Unlimited). f.0) (is_unlimited skip port queue port_is queue_is)
 takes_from skip port queue (Some n) port_is queue_is fits =
     takes_limited skip port queue (decimal n) port_is queue_is (is_number 4294967295 n (omega (arith, fits)) fits)
 
 finds_from : (skip : Bool) (port queue : ℕ) (limit : Option ℕ) → port < PORTS → queue < MOST_PAIRS → IsLimit limit
     → places_of (held_after (from_words skip port queue (limit_words limit))) ≡ places_said skip port queue (option_map decimal limit)
-finds_from skip port queue None port_is queue_is fits = finds_all skip port queue port_is queue_is
+finds_from skip port queue None port_is queue_is fits = ap (λ (f : Unlimited). f.1) (is_unlimited skip port queue port_is queue_is)
 finds_from skip port queue (Some n) port_is queue_is fits =
     finds_limited skip port queue (decimal n) port_is queue_is (is_number 4294967295 n (omega (arith, fits)) fits)
     ∙ ap (places_said skip port queue) (reads_itself n fits)

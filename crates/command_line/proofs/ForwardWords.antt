@@ -61,7 +61,7 @@ has_options : (words : List Text) (config : Config) (printing : Printing) (files
 has_options words config printing files says = record { command = is_command; among = refl; distinct = refl; valid = λ h. refl }
 
 -- what each of its numbers says
-record Saying (words : List Text) (config : Config) (printing : Printing) (files : FileOptions) (says : SaysForward words config printing files) : Type 0 where
+record ParsedCommand (words : List Text) (config : Config) (printing : Printing) (files : FileOptions) (says : SaysForward words config printing files) : Type 0 where
   pairs : IsSaid (codes "pairs") 4294967295 (codes "1") says.pairs config.pairs (said_of _ _ _ _ _ says.says_pairs)
   ring : IsSaid (codes "ring") 4294967295 (codes "512") says.ring config.ring (said_of _ _ _ _ _ says.says_ring)
   buffers : IsSaid (codes "buffers") 4294967295 (codes "4096") says.buffers config.buffers (said_of _ _ _ _ _ says.says_buffers)
@@ -71,7 +71,7 @@ record Saying (words : List Text) (config : Config) (printing : Printing) (files
   workers : IsSaid (codes "workers") 4294967295 (codes "1") says.workers config.workers (said_of _ _ _ _ _ says.says_workers)
   turns : IsSaid (codes "turns") 4294967295 (codes "0") says.turns config.turns (said_of _ _ _ _ _ says.says_turns)
 
-saying : (words : List Text) (config : Config) (printing : Printing) (files : FileOptions) (says : SaysForward words config printing files) → Saying words config printing files says
+saying : (words : List Text) (config : Config) (printing : Printing) (files : FileOptions) (says : SaysForward words config printing files) → ParsedCommand words config printing files says
 unfolding digits
 saying words config printing files says = record {
   pairs = is_said (codes "pairs") 4294967295 1 (codes "1") says.pairs config.pairs (omega arith) (omega arith) refl says.says_pairs;

@@ -10,9 +10,10 @@ pub mod ReplayWords
 mod RequestParts
 mod SaidWords
 pub mod ForwardWords
+mod ScheduleOptions
 pub mod ScheduleWords
 pub mod CoverWords
 pub mod RecommendedWords
 pub mod DriverWords
 pub mod CaptureWords
-pub mod Sayings
+pub mod ParsedCommands

@@ -31,9 +31,9 @@ use Rattle.command_line.proofs.OptionRows.{OptionUse, absent-in, absent-use, all
 -- ---- options
 
 -- what stands behind an option whose value may be left out: nothing, or `=` and its value
-pub data Shown : Type 0 where
-  alone : Shown
-  with_word : Text → Shown
+pub data OptionalValue : Type 0 where
+  alone : OptionalValue
+  with_word : Text → OptionalValue
 
 -- an option with a number up to this one, which has these texts where it is left out; one without a value; one with a word; one with
 -- a word, which may stand again and again; and one whose value may be left out, where it has this one. Each with what is said by it
@@ -42,7 +42,7 @@ pub data Given : Type 0 where
   flag : Text → Bool → Given
   worded : Text → Option Text → Given
   files : Text → List Text → Given
-  optional : Text → Text → Option Shown → Given
+  optional : Text → Text → Option OptionalValue → Given
 
 abbrev pub id_of : Given → Text
 id_of (number id most defaults said) = id
@@ -119,7 +119,7 @@ pub record IsNamed (word : Text) (id : Text) (value : Option Text) : Type 0 wher
   pub dashes : bytes_eq word (45 ∷ 45 ∷ []) ≡ false
   pub long : long_of word ≡ Some (id, value)
 
-abbrev IsShown : Text → Shown → Type 0
+abbrev IsShown : Text → OptionalValue → Type 0
 IsShown id alone = ⊤
 IsShown id (with_word word) = IsNamed (dashed id ++ 61 ∷ word) id (Some word)
 
@@ -561,7 +561,7 @@ number_said [] None = None
 number_said (default ∷ defaults) None = Some (without_minus default)
 
 -- a value that may be left out, where the option stands
-abbrev pub optional_said : Text → Option Shown → Option Text
+abbrev pub optional_said : Text → Option OptionalValue → Option Text
 optional_said value None = None
 optional_said value (Some alone) = Some value
 optional_said value (Some (with_word word)) = Some word

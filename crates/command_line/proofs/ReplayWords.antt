@@ -10,13 +10,13 @@ use Rattle.requests.specs.declared.replay.Pictures.{Pictures}
 use Rattle.requests.specs.declared.replay.Pictures.TheVariants.{Never, Each, Last, States, Page}
 use Rattle.requests.specs.declared.replay.QueuePlan.{QueuePlan}
 use Rattle.requests.specs.Replaying.{is_page}
-use Rattle.requests.specs.declared.replay.Shown.{Shown}
+use Rattle.requests.specs.declared.replay.ReplayOutput.{ReplayOutput}
 use Rattle.command_line.specs.CommandLine.{Choices, HasReplay, IsProgram, SaysReplay, program_app}
 use Rattle.command_line.specs.OptionWords.{is_head, picture_value, picture_words}
 use Rattle.command_line.specs.ShownWords.{says_json, says_registers}
-use Rattle.command_line.proofs.Options.{Given, IsLawful, Shown as ValueShown, optional_said, words_of}
+use Rattle.command_line.proofs.Options.{Given, IsLawful, OptionalValue, optional_said, words_of}
 use Rattle.command_line.proofs.Options.Given.{flag, number, optional}
-use Rattle.command_line.proofs.Options.Shown.{alone, with_word}
+use Rattle.command_line.proofs.Options.OptionalValue.{alone, with_word}
 use Rattle.command_line.proofs.OptionLists.{AreLawful, HasOptions, IsSaid, IsCommand, all_words, is_said, options_found, options_taken, said_of}
 
 -- `replay` as clap builds it, which says nothing of the choices of `decode`
@@ -24,7 +24,7 @@ abbrev shape : Shape
 shape = let none : Choices = record { ref_ptr = (0, 0); now = [] } in slice_index_or (built (program_app none none)).subs 2 (new_shape [])
 
 -- what the words say of pictures
-abbrev picture_said : Pictures → Option ValueShown
+abbrev picture_said : Pictures → Option OptionalValue
 picture_said Never = None
 picture_said Each = Some alone
 picture_said Last = Some (with_word (codes "last"))
@@ -142,7 +142,7 @@ pub begins_as : (b read : Bool) → read ≡ not b → not read ≡ b
 begins_as true read is = ap not is
 begins_as false read is = ap not is
 
-pub plan_is : (plan : QueuePlan) (n k : ℕ) (b : Bool) (c : Completion) (l : Bool) (s : Shown) → k ≡ plan.pairs → n ≡ plan.ring → b ≡ plan.enabled → c ≡ plan.completion → l ≡ plan.lists
+pub plan_is : (plan : QueuePlan) (n k : ℕ) (b : Bool) (c : Completion) (l : Bool) (s : ReplayOutput) → k ≡ plan.pairs → n ≡ plan.ring → b ≡ plan.enabled → c ≡ plan.completion → l ≡ plan.lists
     → s ≡ plan.shown → ◌≡◌ {A = QueuePlan} (record { pairs = k; ring = n; enabled = b; completion = c; lists = l; shown = s }) plan
 plan_is plan n k b c l s pairs_are ring_is enabled_is completion_is lists_are shown_are =
     rw (pairs_are, ring_is, enabled_is, completion_is, lists_are, shown_are) refl

@@ -7,7 +7,7 @@ use Rattle.clap.specs.declared.error.kind.ErrorKind.{ErrorKind}
 use Rattle.clap.specs.declared.error.kind.ErrorKind.TheVariants.{DisplayHelp, DisplayVersion, OutOfMemory}
 use Rattle.requests.specs.declared.request.Request.{Request}
 use Rattle.requests.specs.declared.request.Request.TheVariants.{Once, Decode, Replay}
-use Rattle.requests.specs.declared.decode.Form.{Form}
+use Rattle.requests.specs.declared.decode.DescriptorForm.{DescriptorForm}
 use Rattle.requests.specs.declared.replay.QueuePlan.{QueuePlan}
 use Rattle.requests.specs.Decoding.{ring_word, format_word}
 use Rattle.settings.specs.declared.config.Config.{Config}
@@ -94,21 +94,21 @@ program_app rings formats = fold (λ app command. with_subcommand app command.to
     ∷ schedules_app
     ∷ [])
 
--- the command line is this one. clap also keeps the address of a list of choices, which may be any address
-pub record IsProgram (app : App) : Type 0 where
+-- the command line is made of the choices of `decode`. clap also keeps the address of a list of choices, which may be any address
+pub record IsMade (make : Choices → Choices → App) (app : App) : Type 0 where
   pub rings : Choices
   pub formats : Choices
   pub rings_are : map (λ word. word.now) rings.now ≡ codes "rx" ∷ codes "tx" ∷ []
   pub formats_are : map (λ word. word.now) formats.now ≡ codes "read" ∷ codes "back" ∷ []
-  pub app_is : app ≡ program_app rings formats
+  pub app_is : app ≡ make rings formats
+
+-- the command line is this one
+abbrev pub IsProgram : App → Type 0
+IsProgram = IsMade program_app
 
 -- the same for the program with its first commands
-pub record IsBeginning (app : App) : Type 0 where
-  pub rings : Choices
-  pub formats : Choices
-  pub rings_are : map (λ word. word.now) rings.now ≡ codes "rx" ∷ codes "tx" ∷ []
-  pub formats_are : map (λ word. word.now) formats.now ≡ codes "read" ∷ codes "back" ∷ []
-  pub app_is : app ≡ beginning_app rings formats
+abbrev pub IsBeginning : App → Type 0
+IsBeginning = IsMade beginning_app
 
 -- the words are `once` and its argument, which does not begin with a hyphen
 pub record SaysOnce (words : List Text) (digits : Text) : Type 0 where
@@ -116,7 +116,7 @@ pub record SaysOnce (words : List Text) (digits : Text) : Type 0 where
   pub no_option : slice_index digits 0 ≢ 45
 
 -- the words are `decode`, those of a form, and digits that do not begin with a hyphen
-pub record SaysDecode (words : List Text) (form : Form) (digits : Text) : Type 0 where
+pub record SaysDecode (words : List Text) (form : DescriptorForm) (digits : Text) : Type 0 where
   pub words_are : words ≡ codes "decode" ∷ ring_word form ∷ format_word form ∷ digits ∷ []
   pub no_option : slice_index digits 0 ≢ 45
 
@@ -174,7 +174,7 @@ pub record SaysForward (words : List Text) (config : Config) (printing : Printin
 abbrev pub HasOnce : List Row → Text → Type 0
 HasOnce rows digits = first_of (codes "hex") rows ≡ Some digits
 
-pub record HasDecode (rows : List Row) (form : Form) (digits : Text) : Type 0 where
+pub record HasDecode (rows : List Row) (form : DescriptorForm) (digits : Text) : Type 0 where
   pub ring : first_of (codes "ring") rows ≡ Some (ring_word form)
   pub format : first_of (codes "format") rows ≡ Some (format_word form)
   pub hex : first_of (codes "hex") rows ≡ Some digits
@@ -211,7 +211,7 @@ IsOnce (Once given) digits = given.now ≡ digits
 IsOnce request digits = ⊥
 
 -- the request is `decode` with these digits in this form
-abbrev pub IsDecode : Request → Form → Text → Type 0
+abbrev pub IsDecode : Request → DescriptorForm → Text → Type 0
 IsDecode (Decode named given) form digits = (named ≡ form) × (given.now ≡ digits)
 IsDecode request form digits = ⊥
 

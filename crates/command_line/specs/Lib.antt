@@ -5,6 +5,6 @@ pub mod ScheduleWords
 pub mod ReadingWords
 pub mod FileWords
 pub mod CommandLine
-pub mod Sayings
+pub mod ParsedCommands
 pub mod Building
 pub mod Params

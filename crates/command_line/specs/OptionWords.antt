@@ -1,5 +1,5 @@
 -- Commands, options and flags: the clap rule of each, its words, and its values.
-use Rattle.std.specs.Prelude.{◌≡◌, ◌⊎◌, ℕ, ◌^◌, ◌<◌, Bool, true, false, if◌then◌else◌, pos, List, [], ◌∷◌, codes, decimal, fold, Option, Some, None}
+use Rattle.std.specs.Prelude.{◌≡◌, ◌⊎◌, ℕ, ◌^◌, ◌<◌, Bool, true, false, if◌then◌else◌, pos, List, [], ◌∷◌, codes, decimal, fold, is_some, Option, Some, None}
 use Rattle.clap.specs.Words.{App, Row, Rule, Text, new_app, new_rule, one_of, with_rule}
 use Rattle.clap.specs.Values.{bool_text}
 use Rattle.clap.specs.declared.builder.action.ArgAction.TheVariants.{SetTrue}
@@ -93,15 +93,8 @@ picture_value Page = None
 
 -- what the option `--picture` says of them
 abbrev pub said_pictures : Pictures → Pictures
-said_pictures Never = Never
-said_pictures Each = Each
-said_pictures Last = Last
-said_pictures States = Never
-said_pictures Page = Never
+said_pictures pictures = if is_some (picture_value pictures) then pictures else Never
 
 abbrev pub draws_any : Pictures → Bool
 draws_any Never = false
-draws_any Each = true
-draws_any Last = true
-draws_any States = true
-draws_any Page = true
+draws_any _ = true

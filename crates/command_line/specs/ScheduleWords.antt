@@ -7,7 +7,7 @@ use Rattle.clap.specs.declared.parser.matches.ValueSource.TheVariants.{CommandLi
 use Rattle.requests.specs.declared.replay.Pictures.TheVariants.{Never, Each, Last, States, Page}
 use Rattle.requests.specs.declared.replay.Pictures.{Pictures}
 use Rattle.requests.specs.declared.replay.TheConstants.{PAGE}
-use Rattle.requests.specs.declared.replay.Shown.{Shown}
+use Rattle.requests.specs.declared.replay.ReplayOutput.{ReplayOutput}
 use Rattle.requests.specs.declared.covers.CoverRequest.{CoverRequest}
 use Rattle.settings.specs.declared.plan.SchedulePlan.{SchedulePlan}
 use Rattle.ring_model.specs.declared.states.Completion.TheVariants.{Status}
@@ -44,16 +44,16 @@ schedules_app = with_rules (codes "schedules") (said_rule (codes "seed")
     ∷ [])
 
 -- Whether the expected output is printed as objects, and whether with registers.
-abbrev pub expects_json : Option Shown → Bool
+abbrev pub expects_json : Option ReplayOutput → Bool
 expects_json None = false
 expects_json (Some form) = says_json form
 
-abbrev pub expects_registers : Option Shown → Bool
+abbrev pub expects_registers : Option ReplayOutput → Bool
 expects_registers None = false
 expects_registers (Some form) = says_registers form
 
 -- Whether the output of `replay` follows each list. A page has it anyway.
-abbrev pub says_expect : Option Shown → Bool
+abbrev pub says_expect : Option ReplayOutput → Bool
 says_expect expect = is_some expect && not (shows_page expect)
 
 -- The expected output has no pictures, or is a page.
@@ -64,25 +64,25 @@ IsExpectedBy Last json registers = ⊥
 IsExpectedBy States json registers = ⊥
 IsExpectedBy Page json registers = (json ≡ true) × (registers ≡ true)
 
-abbrev pub IsExpected : Option Shown → Type 0
+abbrev pub IsExpected : Option ReplayOutput → Type 0
 IsExpected None = Unit {0}
 IsExpected (Some form) = IsExpectedBy form.pictures form.json form.registers
 
 -- What is expected for the values of the four flags, if they may stand together.
-abbrev pub expect_of : Bool → Bool → Bool → Bool → Option (Option Shown)
+abbrev pub expect_of : Bool → Bool → Bool → Bool → Option (Option ReplayOutput)
 expect_of page stands json registers = if page then (if stands || (json || registers) then None else Some (Some PAGE))
     else (if stands then Some (Some (record { json = json; registers = registers; pictures = Never }))
     else (if json || registers then None else Some None))
 
 -- The expected output has no pictures.
-abbrev pub IsUndrawn : Option Shown → Type 0
+abbrev pub IsUndrawn : Option ReplayOutput → Type 0
 IsUndrawn None = Unit {0}
 IsUndrawn (Some form) = form.pictures ≡ Never
 
 -- The last words: `--expect` if the output of `replay` follows each list, `--json` if it is printed as objects,
 -- `--registers` if registers are shown, `--page` if the output is a page, which excludes the three before it,
 -- `--device-only-real` if only moves of silicon are made, and `--explain` if a refusal is explained.
-abbrev pub last_words : Option Shown → Bool → Bool → List Text
+abbrev pub last_words : Option ReplayOutput → Bool → Bool → List Text
 last_words expect device_only explained =
     flag_words (codes "--expect") (says_expect expect)
     ++ (flag_words (codes "--json") (expects_json expect)
@@ -185,18 +185,16 @@ by_words None = false
 abbrev pub is_said : Text → List Row → Bool
 is_said id rows = by_words (option_and_then (λ r. r.source) (find (λ r. bytes_eq r.id id) rows))
 
--- An option of drawn lists is given.
-abbrev pub draws : List Row → Bool
-draws rows =
-    is_said (codes "seed") rows || (is_said (codes "moves") rows || (is_said (codes "count") rows || (is_said (codes "ring") rows
-    || (is_said (codes "pairs") rows || (is_said (codes "off") rows || (is_said (codes "refused") rows
-    || (is_said (codes "recommended") rows || is_said (codes "driver") rows)))))))
-
 -- An option is given that determines the number, length or content of lists.
 abbrev pub counts : List Row → Bool
 counts rows =
     is_said (codes "seed") rows || (is_said (codes "moves") rows || (is_said (codes "count") rows
     || (is_said (codes "refused") rows || is_said (codes "driver") rows)))
+
+-- An option of drawn lists is given.
+abbrev pub draws : List Row → Bool
+draws rows =
+    counts rows || (is_said (codes "ring") rows || (is_said (codes "pairs") rows || (is_said (codes "off") rows || is_said (codes "recommended") rows)))
 
 -- An option is given that a driver cannot follow.
 abbrev pub strays : List Row → Bool
@@ -204,7 +202,7 @@ strays rows =
     is_said (codes "off") rows || (is_said (codes "head") rows || (is_said (codes "refused") rows || is_said (codes "device-only-real") rows))
 
 -- The values of the arguments.
-pub record HasExpect (rows : List Row) (expect : Option Shown) : Type 0 where
+pub record HasExpect (rows : List Row) (expect : Option ReplayOutput) : Type 0 where
   pub stands : HasFlag rows (codes "expect") (says_expect expect)
   pub json : HasFlag rows (codes "json") (expects_json expect)
   pub registers : HasFlag rows (codes "registers") (expects_registers expect)

@@ -3,14 +3,14 @@ ghost use Rattle.std.specs.Prelude.{◌≡◌, ◌⊎◌, List, Some, codes, map
 ghost use Rattle.std.specs.String.{string_bytes};
 ghost use Rattle.clap.specs.Words.{Row, Text, kind_of, found_of, rows_of, subcommand_rows_of};
 ghost use Rattle.clap.specs.declared.error.kind.ErrorKind.TheVariants.{OutOfMemory};
-ghost use Rattle.requests.specs.declared.decode.Form.{Form};
+ghost use Rattle.requests.specs.declared.decode.DescriptorForm.{DescriptorForm};
 ghost use Rattle.command_line.specs.CommandLine.{CanBeDone, HasDecode, HasForward, HasOnce, HasPrinting, HasReplay, IsDecode, IsMistake, IsMisuse, IsOnce, IsReplayOf};
 ghost use Rattle.requests.specs.declared.replay.QueuePlan.{QueuePlan};
 ghost use Rattle.command_line.specs.OptionWords.{HasFlag, is_head};
 ghost use Rattle.ring_model.specs.declared.states.Completion.{Completion as Reports};
 ghost use Rattle.settings.specs.declared.config.Config.{Config as ForwardConfig};
 ghost use Rattle.requests.specs.declared.printing.Printing.{Printing as Printed};
-ghost use Rattle.command_line.specs.Sayings.{Holds, IsAsked, Says, Saying, name_of};
+ghost use Rattle.command_line.specs.ParsedCommands.{Holds, IsAsked, Says, ParsedCommand, name_of};
 
 use crate::captures::{from_capture_in, to_capture_in};
 use crate::drivers::driver_fault_in;
@@ -21,7 +21,9 @@ use crate::reading::{flag_in, number_in, word_in};
 use crate::showing::shown_in;
 use clap::error::ErrorKind;
 use clap::{ArgMatches, Error};
-use requests::{CaptureRequest, CoverRequest, Form, Printing, QueuePlan, Request, ScheduleRequest};
+use requests::{
+    CaptureRequest, CoverRequest, DescriptorForm, Printing, QueuePlan, Request, ScheduleRequest,
+};
 use ring_model::Completion;
 use settings::Config;
 use std::alloc::Global;
@@ -72,7 +74,7 @@ pub enum Asked<'a> {
 /// Parses the words after the program's name. Returns an error of `clap` if they are mistaken, if they ask for help or
 /// the version, or if memory is missing.
 pub fn asked_of<'a>(alloc: Global, words: &'a [String]) -> Result<Asked<'a>, Error>
-    ensures said { (saying : Saying) → Says (map string_bytes words.entry.now) saying
+    ensures said { (saying : ParsedCommand) → Says (map string_bytes words.entry.now) saying
         → MatchResult result (IsAsked saying) (λ e. kind_of e ≡ OutOfMemory) }
     ensures can_be_done { IfOk result CanBeDone }
     ensures misuse { IsMisuse (map string_bytes words.entry.now)
@@ -86,7 +88,7 @@ pub fn asked_of<'a>(alloc: Global, words: &'a [String]) -> Result<Asked<'a>, Err
 
 /// The same, with the errors of `clap` as they are.
 fn parsed<'a>(alloc: Global, words: &'a [String]) -> Result<Asked<'a>, Error>
-    ensures said { (saying : Saying) → Says (map string_bytes words.entry.now) saying
+    ensures said { (saying : ParsedCommand) → Says (map string_bytes words.entry.now) saying
         → MatchResult result (IsAsked saying) (λ e. kind_of e ≡ OutOfMemory) }
     ensures can_be_done { IfOk result CanBeDone }
     ensures misuse { IsMisuse (map string_bytes words.entry.now)
@@ -149,7 +151,7 @@ fn has_other_form<'a>(found: &ArgMatches<'a>) -> bool {
 
 /// Reads the request from matches of the program's command line.
 fn asked_in<'a>(matches: &ArgMatches<'a>) -> Option<Asked<'a>>
-    ensures said { (rows : List Row) (saying : Saying) → subcommand_rows_of matches.now ≡ Some (name_of saying, rows)
+    ensures said { (rows : List Row) (saying : ParsedCommand) → subcommand_rows_of matches.now ≡ Some (name_of saying, rows)
         → Holds rows saying → IsSomeAnd result (IsAsked saying) }
     ensures can_be_done { IfSome result CanBeDone }
 {
@@ -186,10 +188,10 @@ fn once_in<'a>(once: &ArgMatches<'a>) -> Option<Request<'a>>
 
 /// Reads the request from matches of `decode`.
 fn decode_in<'a>(decode: &ArgMatches<'a>) -> Option<Request<'a>>
-    ensures { (form : Form) (digits : Text) → HasDecode (rows_of (found_of decode.now)) form digits
+    ensures { (form : DescriptorForm) (digits : Text) → HasDecode (rows_of (found_of decode.now)) form digits
         → IsSomeAnd result (λ r. IsDecode r form digits) }
 {
-    let form = Form::named(word_in(decode, "ring")?, word_in(decode, "format")?)?;
+    let form = DescriptorForm::named(word_in(decode, "ring")?, word_in(decode, "format")?)?;
     let digits = word_in(decode, "hex")?;
     Some(Request::Decode { form, digits })
 }

@@ -6,6 +6,7 @@ ghost use Rattle.command_line.specs.ScheduleWords.{HasCover, by_words, draws, is
 
 use crate::command::completion_in;
 use crate::expects::expect_in;
+use crate::lists::counts;
 use crate::reading::flag_in;
 use clap::ArgMatches;
 use clap::parser::ValueSource;
@@ -34,15 +35,11 @@ pub(crate) fn cover_in<'a>(matches: &ArgMatches<'a>) -> Option<CoverRequest>
 fn draws<'a>(matches: &ArgMatches<'a>) -> bool
     ensures { result ≡ draws (rows_of (found_of matches.now)) }
 {
-    is_said(matches, "seed")
-        || is_said(matches, "moves")
-        || is_said(matches, "count")
+    counts(matches)
         || is_said(matches, "ring")
         || is_said(matches, "pairs")
         || is_said(matches, "off")
-        || is_said(matches, "refused")
         || is_said(matches, "recommended")
-        || is_said(matches, "driver")
 }
 
 /// Whether an option is given among the words. An omitted one may still have a value, its default.

@@ -8,8 +8,7 @@ ghost use Rattle.requests.specs.declared.lists.ScheduleRequest.{ScheduleRequest 
 ghost use Rattle.command_line.specs.ScheduleWords.{Excludes, FitNone, FollowsDriver, HasDriver, HasText, strays};
 
 use crate::covers::is_said;
-use crate::expects::expect_in;
-use crate::lists::plan_in;
+use crate::lists::{plan_in, request_of};
 use crate::reading::{flag_in, number_in, text_in, word_in};
 use clap::ArgMatches;
 use clap::error::ErrorKind;
@@ -44,15 +43,7 @@ pub(crate) fn driven_in<'a>(matches: &ArgMatches<'a>) -> Option<ScheduleRequest>
     if !thresholds.fit(plan.ring) {
         return None;
     }
-    let seed = number_in(matches, "seed")?;
-    let count = number_in(matches, "count")?;
-    let expect = expect_in(matches)?;
-    Some(ScheduleRequest {
-        plan,
-        seed,
-        count,
-        expect,
-    })
+    request_of(matches, plan)
 }
 
 /// Whether an option of drawn lists is given that a driver cannot follow.

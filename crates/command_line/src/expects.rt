@@ -1,17 +1,17 @@
 //! Reads what `schedules` prints beside the lists from matches.
 ghost use Rattle.std.specs.Prelude.{◌≡◌, Option, Some};
 ghost use Rattle.clap.specs.Words.{found_of, rows_of};
-ghost use Rattle.requests.specs.declared.replay.Shown.{Shown as Form};
+ghost use Rattle.requests.specs.declared.replay.ReplayOutput.{ReplayOutput};
 ghost use Rattle.command_line.specs.ScheduleWords.{HasExpect, expect_of};
 
 use crate::reading::flag_in;
 use clap::ArgMatches;
-use requests::{PAGE, Pictures, Shown};
+use requests::{PAGE, Pictures, ReplayOutput};
 
 /// Reads the form in which the output of `replay` follows each list: `Some(None)` without `--expect`, and a page with
 /// `--page`. Returns `None` if a form is given without `--expect`, or if both stand together.
-pub(crate) fn expect_in<'a>(matches: &ArgMatches<'a>) -> Option<Option<Shown>>
-    ensures { (expect : Option Form) → HasExpect (rows_of (found_of matches.now)) expect → result ≡ Some expect }
+pub(crate) fn expect_in<'a>(matches: &ArgMatches<'a>) -> Option<Option<ReplayOutput>>
+    ensures { (expect : Option ReplayOutput) → HasExpect (rows_of (found_of matches.now)) expect → result ≡ Some expect }
 {
     let stands = flag_in(matches, "expect");
     let json = flag_in(matches, "json");
@@ -21,7 +21,7 @@ pub(crate) fn expect_in<'a>(matches: &ArgMatches<'a>) -> Option<Option<Shown>>
 }
 
 /// Returns the form for the values of the four flags, if they may stand together.
-fn expect_of(page: bool, stands: bool, json: bool, registers: bool) -> Option<Option<Shown>>
+fn expect_of(page: bool, stands: bool, json: bool, registers: bool) -> Option<Option<ReplayOutput>>
     ensures { result ≡ expect_of page stands json registers }
 {
     if page {
@@ -32,7 +32,7 @@ fn expect_of(page: bool, stands: bool, json: bool, registers: bool) -> Option<Op
         };
     }
     if stands {
-        return Some(Some(Shown {
+        return Some(Some(ReplayOutput {
             json,
             registers,
             pictures: Pictures::Never,

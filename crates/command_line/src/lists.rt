@@ -1,11 +1,12 @@
 //! Reads the request of `schedules` from matches.
-ghost use Rattle.std.specs.Prelude.{◌≡◌, Some, IfSome, IsSomeAnd};
+ghost use Rattle.std.specs.Prelude.{◌≡◌, Some, codes, IfSome, IsSomeAnd};
 ghost use Rattle.clap.specs.Words.{found_of, rows_of};
 ghost use Rattle.settings.specs.declared.plan.SchedulePlan.{SchedulePlan as Plan};
 ghost use Rattle.requests.specs.declared.lists.ScheduleRequest.{ScheduleRequest as Lists};
 ghost use Rattle.requests.specs.declared.covers.CoverRequest.{CoverRequest as Covering};
 ghost use Rattle.command_line.specs.CommandLine.{CanBeDone, IsCover, IsSchedules};
-ghost use Rattle.command_line.specs.ScheduleWords.{HasCover, HasLists, HasQueues, HasRecommended, HasSchedules, counts};
+ghost use Rattle.command_line.specs.OptionWords.{HasNumber};
+ghost use Rattle.command_line.specs.ScheduleWords.{HasCover, HasExpect, HasLists, HasQueues, HasRecommended, HasSchedules, counts};
 
 use crate::command::{Asked, completion_in};
 use crate::covers::{cover_in, is_said};
@@ -23,7 +24,7 @@ const COUNT: u32 = 4;
 
 const MOVES: u32 = 2000;
 
-const REFUSED: u32 = 10;
+const EXIT_REFUSED: u32 = 10;
 
 /// Reads the request from matches of `schedules`: drawn lists, or with `--cover` lists that together meet every
 /// reachable pair.
@@ -62,7 +63,7 @@ fn recommended_in<'a>(matches: &ArgMatches<'a>) -> Option<ScheduleRequest>
     if counts(matches) {
         return None;
     }
-    let plan = plan_in(matches, MOVES, REFUSED, None)?;
+    let plan = plan_in(matches, MOVES, EXIT_REFUSED, None)?;
     let expect = expect_in(matches)?;
     Some(ScheduleRequest {
         plan,
@@ -72,8 +73,8 @@ fn recommended_in<'a>(matches: &ArgMatches<'a>) -> Option<ScheduleRequest>
     })
 }
 
-/// Whether an option is given that determines the number, length or content of lists.
-fn counts<'a>(matches: &ArgMatches<'a>) -> bool
+/// Whether an option is given that determines the number, length or content of drawn lists.
+pub(crate) fn counts<'a>(matches: &ArgMatches<'a>) -> bool
     ensures { result ≡ counts (rows_of (found_of matches.now)) }
 {
     is_said(matches, "seed")
@@ -90,6 +91,19 @@ fn schedules_in<'a>(matches: &ArgMatches<'a>) -> Option<ScheduleRequest>
     let moves = number_in(matches, "moves")?;
     let refused = number_in(matches, "refused")?;
     let plan = plan_in(matches, moves, refused, None)?;
+    request_of(matches, plan)
+}
+
+/// Reads the request for lists of this plan, with their seed and their number.
+pub(crate) fn request_of<'a>(
+    matches: &ArgMatches<'a>,
+    plan: SchedulePlan,
+) -> Option<ScheduleRequest>
+    ensures said { (request : Lists) → HasNumber (rows_of (found_of matches.now)) (codes "seed") request.seed
+        → HasNumber (rows_of (found_of matches.now)) (codes "count") request.count → HasExpect (rows_of (found_of matches.now)) request.expect
+        → plan ≡ request.plan → result ≡ Some request }
+    ensures planned { IfSome result (λ request. request.plan ≡ plan) }
+{
     let seed = number_in(matches, "seed")?;
     let count = number_in(matches, "count")?;
     let expect = expect_in(matches)?;

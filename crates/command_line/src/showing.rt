@@ -1,18 +1,18 @@
 //! Reads the form of the output of `replay` from matches.
 ghost use Rattle.std.specs.Prelude.{◌≡◌, Some};
 ghost use Rattle.clap.specs.Words.{found_of, rows_of};
-ghost use Rattle.requests.specs.declared.replay.Shown.{Shown as Form};
+ghost use Rattle.requests.specs.declared.replay.ReplayOutput.{ReplayOutput};
 ghost use Rattle.command_line.specs.ShownWords.{HasShown, form_of};
 
 use crate::drawings::{draws_any, pictures_in};
 use crate::reading::flag_in;
 use clap::ArgMatches;
-use requests::{PAGE, Pictures, Shown};
+use requests::{PAGE, Pictures, ReplayOutput};
 
 /// Reads the form from matches of `replay`. Returns `None` if `--picture` is not valid or is given with `--json`, or if
 /// `--page` is given with one of `--json`, `--registers` and `--picture`.
-pub(crate) fn shown_in<'a>(replay: &ArgMatches<'a>) -> Option<Shown>
-    ensures { (shown : Form) → HasShown (rows_of (found_of replay.now)) shown → result ≡ Some shown }
+pub(crate) fn shown_in<'a>(replay: &ArgMatches<'a>) -> Option<ReplayOutput>
+    ensures { (shown : ReplayOutput) → HasShown (rows_of (found_of replay.now)) shown → result ≡ Some shown }
 {
     let json = flag_in(replay, "json");
     let registers = flag_in(replay, "registers");
@@ -22,7 +22,7 @@ pub(crate) fn shown_in<'a>(replay: &ArgMatches<'a>) -> Option<Shown>
 }
 
 /// Returns the form for the values of the four options, if they may stand together.
-fn form_of(page: bool, json: bool, registers: bool, pictures: Pictures) -> Option<Shown>
+fn form_of(page: bool, json: bool, registers: bool, pictures: Pictures) -> Option<ReplayOutput>
     ensures { result ≡ form_of page json registers pictures }
 {
     let draws = draws_any(pictures);
@@ -35,7 +35,7 @@ fn form_of(page: bool, json: bool, registers: bool, pictures: Pictures) -> Optio
     if json && draws {
         return None;
     }
-    Some(Shown {
+    Some(ReplayOutput {
         json,
         registers,
         pictures,

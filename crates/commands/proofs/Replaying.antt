@@ -24,7 +24,7 @@ use Rattle.ring_machine.proofs.QueuesRunning.{did-made, did-refused}
 use Rattle.ring_machine.proofs.shared.Running.{joined}
 use Rattle.text_lines.specs.Parts.{lines_of, says_something}
 use Rattle.requests.specs.declared.replay.QueuePlan.{QueuePlan}
-use Rattle.requests.specs.declared.replay.Shown.{Shown}
+use Rattle.requests.specs.declared.replay.ReplayOutput.{ReplayOutput}
 use Rattle.commands.specs.Replay.{after_it, count_line, drawn_at_last, drawn_at_once, drawn_of, last_from, line_in, opening_of, shown_registers, told_line, world_of, HasData, IsDrawn, IsListPage, IsPrinted, LacksMemory, IsFaulty, IsMoveList, IsNoMove, IsPageOf, IsReplay, Reads, Says, Tells, WroteMove}
 
 -- what reading a line answers, in words of lists
@@ -70,7 +70,7 @@ told w m (Ok t) later before after d = did-made w (queue_move m) t later before 
 told w m (Err why) later before after d = did-refused w (queue_move m) why later before after d
 
 -- a move that was made has its note in its line, and one that was refused has none
-pub wrote : (shown : Shown) (w : World) (m : Move) (r : Result Note MachineError) (old line new : List ℕ) (before later : QueueParts) → Did QueuesAgree (note_in w (queue_move m)) (after_it w m) r before later
+pub wrote : (shown : ReplayOutput) (w : World) (m : Move) (r : Result Note MachineError) (old line new : List ℕ) (before later : QueueParts) → Did QueuesAgree (note_in w (queue_move m)) (after_it w m) r before later
     → (read : Option Registers) → ((w : World) → QueuesAgree later w → read ≡ shown_registers shown w m) → line ≡ old ++ told_line shown.json m (result_ok r) read
     → new ≡ line ++ drawn_of shown.pictures later (drawn_at_once shown.pictures m) → WroteMove shown w m (is_some (result_ok r)) old new later
 wrote shown w m r old line new before later d read shows e behind = let did = told w m r (after_it w m) before later d in record {
@@ -145,14 +145,14 @@ good-faulty text number line later none g = record {
 }
 
 -- so many moves are written, and these lines are left
-pub record Followed (shown : Shown) (w : World) (moves : List Move) (page : List ℕ) (made : ℕ) (first now : QueueParts) : Type 0 where
+pub record Followed (shown : ReplayOutput) (w : World) (moves : List Move) (page : List ℕ) (made : ℕ) (first now : QueueParts) : Type 0 where
   pub lines : List ℕ
   pub tells : Tells shown w moves lines
   pub page_is : page ≡ opening_of shown.pictures first ++ lines
   pub agrees : QueuesAgree now (after_moves w (map queue_move moves))
   pub counted : made ≡ moves_happened w (map queue_move moves)
 
-pub record PageSoFar (shown : Shown) (text page : List ℕ) (made read : ℕ) (last : Option Move) (rest : List (List ℕ)) (first now : QueueParts) : Type 0 where
+pub record PageSoFar (shown : ReplayOutput) (text page : List ℕ) (made read : ℕ) (last : Option Move) (rest : List (List ℕ)) (first now : QueueParts) : Type 0 where
   pub before : List (List ℕ)
   pub split : before ++ rest ≡ lines_of text
   pub moves : List Move
@@ -161,7 +161,7 @@ pub record PageSoFar (shown : Shown) (text page : List ℕ) (made read : ℕ) (l
   pub last_is : last ≡ last_from None moves
   pub follows : (pairs n : ℕ) (w : World) → IsReachableWorld pairs n w → QueuesAgree first w → Followed shown w moves page made first now
 
-pub page-first : (shown : Shown) (text page : List ℕ) (queues : QueueParts) → page ≡ opening_of shown.pictures queues → PageSoFar shown text page 0 0 None (lines_of text) queues queues
+pub page-first : (shown : ReplayOutput) (text page : List ℕ) (queues : QueueParts) → page ≡ opening_of shown.pictures queues → PageSoFar shown text page 0 0 None (lines_of text) queues queues
 page-first shown text page queues e = record {
   before = [];
   split = refl;
@@ -178,7 +178,7 @@ page-first shown text page queues e = record {
   };
 }
 
-pub page-skipped : (shown : Shown) (text page : List ℕ) (made read : ℕ) (last : Option Move) (line : List ℕ) (later : List (List ℕ)) (first now : QueueParts) → says_something line ≡ false
+pub page-skipped : (shown : ReplayOutput) (text page : List ℕ) (made read : ℕ) (last : Option Move) (line : List ℕ) (later : List (List ℕ)) (first now : QueueParts) → says_something line ≡ false
     → PageSoFar shown text page made read last (line ∷ later) first now → PageSoFar shown text page made read last later first now
 page-skipped shown text page made read last line later first now e p = record {
   before = p.before ++ line ∷ [];
@@ -199,7 +199,7 @@ told-later : (line drawn later whole more : List ℕ) → whole ≡ line ++ (dra
 told-later line drawn later whole more is =
     ap (λ (t : List ℕ). t ++ more) is ∙ append_assoc line (drawn ++ later) more ∙ ap (λ (t : List ℕ). line ++ t) (append_assoc drawn later more)
 
-tells-more : (shown : Shown) (w : World) (ms : List Move) (m : Move) (lines drawn : List ℕ) → Tells shown w ms lines
+tells-more : (shown : ReplayOutput) (w : World) (ms : List Move) (m : Move) (lines drawn : List ℕ) → Tells shown w ms lines
     → IsDrawn shown.pictures (after_it (after_moves w (map queue_move ms)) m) (drawn_at_once shown.pictures m) drawn
     → Tells shown w (ms ++ m ∷ []) (lines ++ (line_in shown (after_moves w (map queue_move ms)) m ++ drawn))
 tells-more shown w [] m lines drawn is draws = (
@@ -225,7 +225,7 @@ pub one-at_most : (b : Bool) (n : ℕ) → n ≡ from_bool b → n ≤ 1
 one-at_most true n e = omega (arith, e)
 one-at_most false n e = omega (arith, e)
 
-pub page-more : (shown : Shown) (text page later_page : List ℕ) (made added read : ℕ) (more : Bool) (last : Option Move) (line : List ℕ) (later : List (List ℕ)) (first now after : QueueParts) (m : Move) → says_something line ≡ true → IsInRange m → line ≡ text_of m
+pub page-more : (shown : ReplayOutput) (text page later_page : List ℕ) (made added read : ℕ) (more : Bool) (last : Option Move) (line : List ℕ) (later : List (List ℕ)) (first now after : QueueParts) (m : Move) → says_something line ≡ true → IsInRange m → line ≡ text_of m
     → ((pairs n : ℕ) (w : World) → IsReachableWorld pairs n w → QueuesAgree now w → WroteMove shown w m more page later_page after)
     → added ≡ from_bool more → PageSoFar shown text page made read last (line ∷ later) first now → PageSoFar shown text later_page (made + added) (read + 1) (Some m) later first after
 page-more shown text page later_page made added read more last line later first now after m e range is wrote adds p = record {
@@ -277,7 +277,7 @@ pub faulty-unsaid : (lines : List (List ℕ)) (k : ℕ) (ms : List Move) → IsF
 faulty-unsaid lines k ms f s = unsaid f.before f.later f.line ms f.no_move s.in_range (ap (filter says_something) f.split ∙ s.texts)
 
 -- so a line of a list of moves that is to be read is read
-pub read-said : (shown : Shown) (text page : List ℕ) (made read : ℕ) (last : Option Move) (line : List ℕ) (later : List (List ℕ)) (first now : QueueParts) → IsMoveList text → IsNoMove line
+pub read-said : (shown : ReplayOutput) (text page : List ℕ) (made read : ℕ) (last : Option Move) (line : List ℕ) (later : List (List ℕ)) (first now : QueueParts) → IsMoveList text → IsNoMove line
     → PageSoFar shown text page made read last (line ∷ later) first now → ⊥
 read-said shown text page made read last line later first now (ms, says) none p = unsaid p.before later line ms none says.in_range (ap (filter says_something) p.split ∙ says.texts)
 
@@ -286,7 +286,7 @@ behind_opening opening lines page more drawn count whole page_is drawn_is whole_
     drawn_behind page drawn whole count more drawn_is whole_is ∙ ap (λ (t : List ℕ). t ++ (more ++ count)) page_is ∙ append_assoc opening lines (more ++ count)
 
 -- when no line is left, the page lacks what is drawn at last, and the count
-pub page-last : (shown : Shown) (w : World) (pairs n : ℕ) (text page drawn whole : List ℕ) (made read : ℕ) (last : Option Move) (first now : QueueParts) → IsReachableWorld pairs n w → QueuesAgree first w
+pub page-last : (shown : ReplayOutput) (w : World) (pairs n : ℕ) (text page drawn whole : List ℕ) (made read : ℕ) (last : Option Move) (first now : QueueParts) → IsReachableWorld pairs n w → QueuesAgree first w
     → drawn ≡ page ++ drawn_of shown.pictures now (drawn_at_last shown.pictures last) → whole ≡ drawn ++ count_line shown.json made read → PageSoFar shown text page made read last [] first now → IsPageOf shown w text whole
 page-last shown w pairs n text page drawn whole made read last first now reached agrees behind e p = let f = p.follows pairs n w reached agrees in record {
   moves = p.moves;

@@ -7,8 +7,8 @@ use Rattle.requests.specs.declared.request.Request.{Request}
 use Rattle.requests.specs.declared.request.Request.TheVariants.{Once, Decode, Replay}
 use Rattle.requests.specs.declared.refusal.Refusal.{Refusal}
 use Rattle.requests.specs.declared.refusal.Refusal.TheVariants.{Memory, Output}
-use Rattle.requests.specs.declared.answers.TheConstants.{DONE, REFUSED}
-use Rattle.requests.specs.declared.decode.Form.{Form}
+use Rattle.requests.specs.declared.answers.TheConstants.{EXIT_SUCCESS, EXIT_REFUSED}
+use Rattle.requests.specs.declared.decode.DescriptorForm.{DescriptorForm}
 use Rattle.requests.specs.Answers.{EndsBy}
 use Rattle.commands.specs.Digits.{bytes_in}
 use Rattle.commands.specs.Frame.{frame_in}
@@ -51,14 +51,14 @@ Refuses request input e old new = (IsWithheld request input e × Keeps old new) 
 
 -- how `once` ends: its frame's line is printed, or it is refused; digits that are no frame are always refused
 abbrev pub Ends : Result (List ℕ) Refusal → ℕ → Option (List ℕ) → Option (List ℕ) → Type 0
-Ends (Ok frame) status old new = ((status ≡ DONE) × Appends old new (line_of frame)) ⊎ (status ≡ REFUSED)
-Ends (Err refusal) status old new = (status ≡ REFUSED) × Keeps old new
+Ends (Ok frame) status old new = ((status ≡ EXIT_SUCCESS) × Appends old new (line_of frame)) ⊎ (status ≡ EXIT_REFUSED)
+Ends (Err refusal) status old new = (status ≡ EXIT_REFUSED) × Keeps old new
 
 -- how `decode` ends: by the meaning of the digits in that form, or refused with nothing printed if memory is missing
-abbrev pub EndsDecode : Form → List ℕ → ℕ → Option (List ℕ) → Option (List ℕ) → Type 0
+abbrev pub EndsDecode : DescriptorForm → List ℕ → ℕ → Option (List ℕ) → Option (List ℕ) → Type 0
 EndsDecode form digits status old new =
     ((answer : Result (List ℕ) Refusal) × IsDecoded form (bytes_in digits) answer × EndsBy answer status old new)
-    ⊎ ((status ≡ REFUSED) × Keeps old new)
+    ⊎ ((status ≡ EXIT_REFUSED) × Keeps old new)
 
 -- how a request ends. For `replay`, the bytes of the input must be known
 abbrev pub EndsAs : Request → Option (List ℕ) → ℕ → Option (List ℕ) → Option (List ℕ) → Type 0

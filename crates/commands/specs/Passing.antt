@@ -8,7 +8,7 @@ use Rattle.limits.specs.RingLength.{IsRingLength}
 use Rattle.ring_model.specs.shared.Frames.{Bytes, cut, frames, piece_count, HasFrameLength}
 use Rattle.ring_model.specs.shared.Segments.{piece_of}
 use Rattle.ring_model.specs.receive.Lawful.{IsLawfulRxLedger}
-use Rattle.rx_ring.specs.Ends.{DriverSide, ControllerSide, driver_size, taken, stored, is_between}
+use Rattle.rx_ring.specs.Ends.{DriverSide, ControllerSide, driver_size, taken, stored, is_at_frame_end}
 use Rattle.rx_ring.specs.Calls.{IsFreshDriver, IsFreshController}
 use Rattle.rx_ring.specs.Meeting.{ledger_of}
 use Rattle.controller.specs.Receiving.{Receiving}
@@ -45,7 +45,7 @@ pub record HasStored (ring : TableId) (frame : Bytes) (controller : ControllerSi
 -- the controller stored the frame once or not at all, and nothing else
 pub record StoredOnly (ring : TableId) (frame : Bytes) (controller : ControllerSide) : Type 0 where
   pub own : controller.table ≡ ring
-  pub whole : is_between controller ≡ true
+  pub whole : is_at_frame_end controller ≡ true
   pub only : (stored controller ≡ []) ⊎ HasStored ring frame controller
 
 -- the controller has stored nothing at the ring; it fills whole buffers, and drops nothing

@@ -25,8 +25,8 @@ use Rattle.requests.specs.Replaying.{is_page}
 use Rattle.requests.specs.declared.replay.Pictures.{Pictures}
 use Rattle.requests.specs.declared.replay.Pictures.TheVariants as pictures
 use Rattle.requests.specs.declared.replay.QueuePlan.{QueuePlan}
-use Rattle.requests.specs.declared.replay.Shown.{Shown}
-use Rattle.requests.specs.declared.answers.TheConstants.{DONE, REFUSED}
+use Rattle.requests.specs.declared.replay.ReplayOutput.{ReplayOutput}
+use Rattle.requests.specs.declared.answers.TheConstants.{EXIT_SUCCESS, EXIT_REFUSED}
 use Rattle.requests.specs.declared.refusal.Refusal.{Refusal}
 use Rattle.requests.specs.declared.refusal.Refusal.TheVariants as refusal
 use Rattle.commands.specs.Lists.{lists_of}
@@ -74,7 +74,7 @@ told_members None = codes "false"
 told_members (Some note) = codes "true" ++ note_members note
 
 -- The registers of a move's queue, if they are shown and there is such a queue.
-abbrev pub shown_registers : Shown → World → Move → Option Registers
+abbrev pub shown_registers : ReplayOutput → World → Move → Option Registers
 shown_registers shown w m = if shown.registers then registers_in w (queue_move m) else None
 
 abbrev pub registers_line : Option Registers → List ℕ
@@ -109,7 +109,7 @@ told_line false m told read = words_line m told ++ registers_line read
 told_line true m told read = object_line m told read
 
 -- The registers are shown as they are after the move.
-abbrev pub line_in : Shown → World → Move → List ℕ
+abbrev pub line_in : ReplayOutput → World → Move → List ℕ
 line_in shown w m = told_line shown.json m (note_in w (queue_move m)) (shown_registers shown (after_it w m) m)
 
 -- The move whose queue is drawn directly after its line, and the one whose queue is drawn after all lines.
@@ -157,7 +157,7 @@ pub record IsOpening (form : Pictures) (w : World) (opening : List ℕ) : Type 0
   pub opening_is : opening ≡ opening_of form queues
 
 -- The lines of the moves. After each line comes the picture, if any, of its queue after the move.
-abbrev pub Tells : Shown → World → List Move → List ℕ → Type 0
+abbrev pub Tells : ReplayOutput → World → List Move → List ℕ → Type 0
 Tells shown w [] lines = lines ≡ []
 Tells shown w (m ∷ ms) lines = (drawn : List ℕ) × (later : List ℕ) × IsDrawn shown.pictures (after_it w m) (drawn_at_once shown.pictures m) drawn
     × Tells shown (after_it w m) ms later × (lines ≡ line_in shown w m ++ (drawn ++ later))
@@ -173,7 +173,7 @@ count_line true made read = codes "{\"made\":" ++ (decimal made ++ (codes ",\"re
 
 -- The page has the text before the first move, the lines of each move, a picture of the last one's queue, if selected,
 -- and the number of moves that happened.
-pub record Replayed (shown : Shown) (w : World) (ms : List Move) (page : List ℕ) : Type 0 where
+pub record Replayed (shown : ReplayOutput) (w : World) (ms : List Move) (page : List ℕ) : Type 0 where
   pub opening : List ℕ
   pub is_opening : IsOpening shown.pictures w opening
   pub lines : List ℕ
@@ -183,7 +183,7 @@ pub record Replayed (shown : Shown) (w : World) (ms : List Move) (page : List �
   pub page_is : page ≡ opening ++ (lines ++ (drawn ++ count_line shown.json (moves_happened w (map queue_move ms)) (length ms)))
 
 -- The page is the output for the text's moves.
-pub record IsPageOf (shown : Shown) (w : World) (text page : List ℕ) : Type 0 where
+pub record IsPageOf (shown : ReplayOutput) (w : World) (text page : List ℕ) : Type 0 where
   pub moves : List Move
   pub says : Says (lines_of text) moves
   pub printed : Replayed shown w moves page
@@ -261,13 +261,13 @@ RefusesReplay plan input e =
 -- The end of `replay` for this text: its output is printed, or it is refused. A faulty text, and a plan of queues
 -- that cannot exist, are always refused, with nothing printed.
 pub record EndsReplay (plan : QueuePlan) (text : List ℕ) (status : ℕ) (old new : Option (List ℕ)) : Type 0 where
-  pub done : status ≡ DONE → HasReplayed plan text old new
-  pub either : (status ≡ DONE) ⊎ (status ≡ REFUSED)
-  pub faulty : (k : ℕ) → IsFaulty (lines_of text) k → (status ≡ REFUSED) × Keeps old new
-  pub no_queues : ¬ (AreQueues plan.pairs plan.ring) → (status ≡ REFUSED) × Keeps old new
+  pub done : status ≡ EXIT_SUCCESS → HasReplayed plan text old new
+  pub either : (status ≡ EXIT_SUCCESS) ⊎ (status ≡ EXIT_REFUSED)
+  pub faulty : (k : ℕ) → IsFaulty (lines_of text) k → (status ≡ EXIT_REFUSED) × Keeps old new
+  pub no_queues : ¬ (AreQueues plan.pairs plan.ring) → (status ≡ EXIT_REFUSED) × Keeps old new
 
 -- The output for one move was written, and the queues agree with the world after it.
-pub record WroteMove (shown : Shown) (w : World) (m : Move) (made : Bool) (old new : List ℕ) (queues : QueueParts) : Type 0 where
+pub record WroteMove (shown : ReplayOutput) (w : World) (m : Move) (made : Bool) (old new : List ℕ) (queues : QueueParts) : Type 0 where
   pub drawn : List ℕ
   pub is_drawn : IsDrawn shown.pictures (after_it w m) (drawn_at_once shown.pictures m) drawn
   pub text : new ≡ old ++ (line_in shown w m ++ drawn)

@@ -2,14 +2,14 @@
 ghost use Rattle.std.specs.Prelude.{◌≡◌, ◌⊎◌, IfErr, IfOk, OnOk};
 ghost use Rattle.std.specs.String.{string_bytes};
 ghost use Rattle.std.specs.Io.KnownBytes.{Keeps};
-ghost use Rattle.requests.specs.declared.answers.TheConstants.{DONE, REFUSED};
+ghost use Rattle.requests.specs.declared.answers.TheConstants.{EXIT_SUCCESS, EXIT_REFUSED};
 ghost use Rattle.commands.specs.Answers.{EndsAs, IsText, IsWithheld, Prints, Refuses};
 
 use crate::decode::decode;
 use crate::explaining::explain_request;
 use crate::once::once;
 use crate::replay::replay_explained;
-use requests::{DONE, REFUSED, Refusal, Request, print, refuse_explained};
+use requests::{EXIT_REFUSED, EXIT_SUCCESS, Refusal, Request, print, refuse_explained};
 use std::alloc::Global;
 use std::io::{Read, Write};
 use std::sync::Wait;
@@ -28,15 +28,15 @@ pub fn answer<R: Threads + Wait + Sync, I: Read, W: Write, E: Write>(
     faults: &mut E,
     explain: bool,
 ) -> u8
-    ensures status { (result ≡ DONE) ⊎ (result ≡ REFUSED) }
-    ensures done { result ≡ DONE → Keeps (E.contents faults.old) (E.contents faults.new) }
+    ensures status { (result ≡ EXIT_SUCCESS) ⊎ (result ≡ EXIT_REFUSED) }
+    ensures done { result ≡ EXIT_SUCCESS → Keeps (E.contents faults.old) (E.contents faults.new) }
     ensures ends { EndsAs request.entry (I.remaining input.old) result (W.contents output.old) (W.contents output.new) }
 {
     let mut why = String::new(alloc);
     match perform(rt, alloc, request, input, output, &mut why) {
         Ok(()) => {
             drop(why);
-            DONE
+            EXIT_SUCCESS
         }
         Err(refusal) => refuse_request(alloc, faults, request, refusal, why, explain),
     }
@@ -51,7 +51,7 @@ fn refuse_request<E: Write>(
     mut why: String,
     explain: bool,
 ) -> u8
-    ensures { result ≡ REFUSED }
+    ensures { result ≡ EXIT_REFUSED }
 {
     let _ = explain_request(alloc, &mut why, request, refusal);
     refuse_explained(faults, refusal, why.as_str(), explain)

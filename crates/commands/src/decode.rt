@@ -9,7 +9,7 @@ ghost use Rattle.requests.specs.Decoding.{format_word, ring_word};
 
 use crate::digits::bytes_of;
 use descriptor::{DescError, Descriptor, RxBack, RxRead, TxBack, TxRead};
-use requests::{Form, Refusal};
+use requests::{DescriptorForm, Refusal};
 use std::alloc::Global;
 use std::fmt::Display;
 
@@ -17,7 +17,7 @@ use std::fmt::Display;
 ///
 /// Returns `Hex` if the digits are not pairs of hex digits, `Descriptor` with the lowest refusal that applies if the
 /// bytes do not have that form, and `Memory` if an allocation fails.
-pub fn decode(alloc: Global, form: Form, digits: &str) -> Result<String, Refusal>
+pub fn decode(alloc: Global, form: DescriptorForm, digits: &str) -> Result<String, Refusal>
     ensures ok { IfOk result (λ line. IsDecoded form (bytes_in digits.now) (Ok (string_bytes line))) }
     ensures err { IfErr result (λ e. (e ≡ Refusal.Memory) ⊎ IsDecoded form (bytes_in digits.now) (Err e)) }
 {
@@ -26,14 +26,14 @@ pub fn decode(alloc: Global, form: Form, digits: &str) -> Result<String, Refusal
 }
 
 /// Decodes bytes in this form, and returns the descriptor's line.
-fn read_as(alloc: Global, form: Form, bytes: &[u8]) -> Result<String, Refusal>
+fn read_as(alloc: Global, form: DescriptorForm, bytes: &[u8]) -> Result<String, Refusal>
     ensures { MatchResult result (λ line. IsRead form bytes.now (Ok (string_bytes line))) (λ e. (e ≡ Refusal.Memory) ⊎ IsRead form bytes.now (Err e)) }
 {
     match form {
-        Form::RxRead => line_of::<RxRead>(alloc, bytes),
-        Form::RxBack => line_of::<RxBack>(alloc, bytes),
-        Form::TxRead => line_of::<TxRead>(alloc, bytes),
-        Form::TxBack => line_of::<TxBack>(alloc, bytes),
+        DescriptorForm::RxRead => line_of::<RxRead>(alloc, bytes),
+        DescriptorForm::RxBack => line_of::<RxBack>(alloc, bytes),
+        DescriptorForm::TxRead => line_of::<TxRead>(alloc, bytes),
+        DescriptorForm::TxBack => line_of::<TxBack>(alloc, bytes),
     }
 }
 

@@ -1,6 +1,7 @@
 //! The commands `once`, `decode` and `replay` of the program `poll82599`, as a library of typed requests on streams.
-//! It uses the ring crates, `descriptor` and `ring_machine`, but no forwarder.
-//! Its contracts pin the printed text of each request; a refusal other than `Output` leaves the output unchanged.
+//! Depends on `requests`, `pictures`, the ring crates, `driver`, `controller`, `descriptor` and `ring_machine`, but on
+//! no forwarder.
+//! Guarantees the printed text of each request; a refusal other than `Output` leaves the output unchanged.
 //!
 //! [`perform`] serves a [`Request`]: the command builds its whole text, which is then printed. If printing fails, it
 //! returns `Output`. [`answer`] also prints refusals and returns an exit status. A refusal is one line; [`refuse_explained`]
@@ -27,6 +28,7 @@ pub use answering::{answer, perform};
 pub use page::{PAGE_HEAD, PAGE_TAIL, page_with};
 pub use replay::replay_text;
 pub use requests::{
-    DONE, Excerpt, Form, NOTES, PAGE, PAGE_DATA, Pictures, QueuePlan, REFUSED, Refusal, Request,
-    Shown, explain_queues, line_at, print, put, read_text, refuse, refuse_explained,
+    DescriptorForm, EXIT_REFUSED, EXIT_SUCCESS, Excerpt, NOTES, PAGE, PAGE_DATA, Pictures,
+    QueuePlan, Refusal, ReplayOutput, Request, explain_queues, line_at, print, put, read_text,
+    refuse, refuse_explained,
 };

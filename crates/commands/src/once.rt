@@ -6,7 +6,7 @@ ghost use Rattle.commands.specs.Answers.{line_of, once_answer, IsOnceRefused};
 ghost use Rattle.commands.specs.Frame.{frame_in};
 
 use crate::frame::frame_of;
-use crate::passing::{Passage, pass};
+use crate::passing::{PassedFrame, pass};
 use buffer_pool::Packet;
 use requests::Refusal;
 use std::alloc::{AllocError, Global};
@@ -29,7 +29,7 @@ pub fn once<R: Threads + Wait + Sync>(
 
 /// Returns the bytes of the packet that the driver took, as a line of lower case hex digits. They are read from that
 /// packet alone.
-fn taken_line(alloc: Global, passage: &Passage) -> Result<String, AllocError>
+fn taken_line(alloc: Global, passage: &PassedFrame) -> Result<String, AllocError>
     ensures { IfOk result (λ line. string_bytes line ≡ line_of (bytes_of passage.now.packet)) }
 {
     let bytes = joined(alloc, &passage.packet)?;

@@ -39,7 +39,7 @@ const BATCH: usize = 1;
 
 /// The result of the driver's thread: its end of the ring, and the packet that it took.
 #[derive(Drop)]
-pub struct Reception {
+pub struct TakenPacket {
     driver: RxDriverEnd,
     packet: Packet,
 }
@@ -48,7 +48,7 @@ pub struct Reception {
 #[derive(Clone, Copy)]
 struct TakesPacket<'a>(&'a RxRing);
 
-impl<'a> Promise<Reception> for TakesPacket<'a> {
+impl<'a> Promise<TakenPacket> for TakesPacket<'a> {
     ghost kept_by = { λ p r. TookPacket p.0.now r.driver r.packet };
 }
 
@@ -62,7 +62,7 @@ impl<'a> Promise<RxControllerEnd> for StoresOnly<'a> {
 
 /// A frame that was passed: the two ends of the ring, and the packet that the driver took.
 #[derive(Drop)]
-pub struct Passage {
+pub struct PassedFrame {
     pub driver: RxDriverEnd,
     pub controller: RxControllerEnd,
     pub packet: Packet,
@@ -74,7 +74,7 @@ pub fn pass<R: Threads + Wait + Sync>(
     rt: &R,
     alloc: Global,
     frame: &[u8],
-) -> Result<Passage, Refusal>
+) -> Result<PassedFrame, Refusal>
     requires { IsFrameLength (length frame.now) }
     ensures passed { IfOk result (λ p. HasPassed frame.now p.driver p.controller p.packet) }
     ensures refused { IfErr result IsUnmade }
@@ -82,9 +82,9 @@ pub fn pass<R: Threads + Wait + Sync>(
     let (ring, driver, controller) = RxRing::new(alloc, DESCRIPTORS)?;
     let stash = full_stash(alloc)?;
     let (reception, mut controller) = in_threads(rt, &ring, driver, controller, stash, frame)?;
-    let Reception { mut driver, packet } = reception;
+    let TakenPacket { mut driver, packet } = reception;
     meet_rx(&ring, &mut driver, &mut controller);
-    Ok(Passage {
+    Ok(PassedFrame {
         driver,
         controller,
         packet,
@@ -114,7 +114,7 @@ fn in_threads<R: Threads + Wait + Sync>(
     controller: RxControllerEnd,
     stash: Stash,
     frame: &[u8],
-) -> Result<(Reception, RxControllerEnd), Refusal>
+) -> Result<(TakenPacket, RxControllerEnd), Refusal>
     requires { CanPass ring.now driver controller frame.now }
     ensures driver { IfOk result (λ ends. TookPacket ring.now ends.0.driver ends.0.packet) }
     ensures controller { IfOk result (λ ends. StoredOnly ring.now frame.now ends.1) }
@@ -125,7 +125,7 @@ fn in_threads<R: Threads + Wait + Sync>(
     thread::scope(
         thread::scope_env(),
         rt,
-        move |scope| -> Result<(Reception, RxControllerEnd), Refusal>
+        move |scope| -> Result<(TakenPacket, RxControllerEnd), Refusal>
             requires { CanPass ring.now driver controller frame.now }
             ensures driver { IfOk result (λ ends. TookPacket ring.entry.now ends.0.driver ends.0.packet) }
             ensures controller { IfOk result (λ ends. StoredOnly ring.entry.now frame.entry.now ends.1) }
@@ -152,7 +152,7 @@ fn in_threads<R: Threads + Wait + Sync>(
 
 /// The driver's thread: enables the queue, and takes batches until a packet arrives. The first batch is empty; it posts
 /// and publishes the buffers of the stash.
-fn receive<R: Wait>(rt: &R, ring: &RxRing, end: RxDriverEnd, mut stash: Stash) -> Reception
+fn receive<R: Wait>(rt: &R, ring: &RxRing, end: RxDriverEnd, mut stash: Stash) -> TakenPacket
     requires own { end.table ≡ ring.now }
     requires fresh { IsFreshDriver end }
     ensures { TookPacket ring.now result.driver result.packet }
@@ -161,7 +161,7 @@ fn receive<R: Wait>(rt: &R, ring: &RxRing, end: RxDriverEnd, mut stash: Stash) -
     enable(rt, ring, &mut driver);
     let packet = take_packet(rt, ring, &mut driver, &mut stash);
     let (driver, _begun) = driver.into_end();
-    Reception { driver, packet }
+    TakenPacket { driver, packet }
 }
 
 /// Asks the controller to enable the queue, and waits until it has done so.

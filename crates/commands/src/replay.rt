@@ -7,7 +7,7 @@ ghost use Rattle.refusals.specs.declared.errors.MachineError.TheVariants.{RingLe
 ghost use Rattle.ring_machine.specs.Queues.{AreQueues, QueuesAgree};
 ghost use Rattle.text_lines.specs.Parts.{lines_of, says_something};
 ghost use Rattle.commands.specs.Lists.{lists_of};
-ghost use Rattle.commands.specs.Replay.{ArePages, HasData, HasPage, IsFaulty, IsListPage, IsMoveList, IsNoMove, IsPageOf, IsReplayed, LacksMemory, Reads, RefusesReplay, ReplayRefused, WroteMove, drawn_at_last, drawn_at_once, drawn_of, has_states, opening_of, queue_drawing, shown_registers, world_of};
+ghost use Rattle.commands.specs.Replay.{ArePages, HasData, HasPage, IsFaulty, IsListPage, IsMoveList, IsNoMove, IsPageOf, IsReplayed, LacksMemory, Reads, RefusesReplay, ReplayRefused, WroteMove, drawn_at_last, drawn_at_once, drawn_of, framed, has_states, opening_of, queue_drawing, shown_registers, world_of};
 ghost use Rattle.requests.specs.Replaying.{is_page};
 
 use crate::explaining::explain_move;
@@ -15,7 +15,7 @@ use crate::lists::cut_list;
 use crate::page::page_with;
 use crate::telling::{write_count, write_told};
 use pictures::{write_opening, write_queue, write_state};
-use requests::{Pictures, QueuePlan, Refusal, Shown, line_at, read_text};
+use requests::{Pictures, QueuePlan, Refusal, ReplayOutput, line_at, read_text};
 use ring_machine::{MachineError, Move, Queues, Registers};
 use std::alloc::{AllocError, Global};
 use std::io::Read;
@@ -76,22 +76,16 @@ pub(crate) fn replay_explained<I: Read>(
     ensures refused { IfErr result (λ e. RefusesReplay plan (I.remaining input.old) e) }
 {
     let text = read_text(alloc, input)?;
-    page_for(alloc, plan, text.as_slice(), why)
+    let content = content_for(alloc, plan, text.as_slice(), why)?;
+    Ok(framed(alloc, plan.shown.pictures, content)?)
 }
 
-/// The output for a text.
-fn page_for(
-    alloc: Global,
-    plan: QueuePlan,
-    text: &[u8],
-    why: &mut String,
-) -> Result<String, Refusal>
-    ensures done { IfOk result (λ page. HasPage plan text.now (string_bytes page)) }
-    ensures refused { IfErr result (λ e. ReplayRefused plan text.now e) }
+/// Returns the output with this content, in a page if that is its form.
+fn framed(alloc: Global, pictures: Pictures, content: String) -> Result<String, AllocError>
+    ensures { IfOk result (λ page. string_bytes page ≡ framed (is_page pictures) (string_bytes content)) }
 {
-    let content = content_for(alloc, plan, text, why)?;
-    if plan.shown.pictures.is_page() {
-        Ok(page_with(alloc, content.as_str())?)
+    if pictures.is_page() {
+        page_with(alloc, content.as_str())
     } else {
         Ok(content)
     }
@@ -189,7 +183,7 @@ fn faulty_line(text: &[u8]) -> Option<u64>
 /// Makes the moves of a text. Returns a line for each, and a line with the count.
 fn page_of(
     alloc: Global,
-    shown: Shown,
+    shown: ReplayOutput,
     queues: &mut Queues,
     text: &[u8],
 ) -> Result<String, AllocError>
@@ -225,7 +219,7 @@ fn page_of(
 }
 
 /// The registers of a move's queue, if they are shown.
-fn shown_registers(shown: Shown, queues: &Queues, action: &Move) -> Option<Registers>
+fn shown_registers(shown: ReplayOutput, queues: &Queues, action: &Move) -> Option<Registers>
     ensures { (w : World) → QueuesAgree queues.now w → result ≡ shown_registers shown w action.now }
 {
     if shown.registers {
@@ -281,7 +275,7 @@ fn draw_queue(
 /// move was made.
 fn write_move(
     page: &mut String,
-    shown: Shown,
+    shown: ReplayOutput,
     queues: &mut Queues,
     action: &Move,
 ) -> Result<bool, AllocError>

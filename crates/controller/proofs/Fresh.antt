@@ -20,14 +20,14 @@ nowhere n some = omega arith
 pub fresh_receives : (c : rx.ControllerSide) → IsRingLength (rx.controller_size c) → IsFreshController c → receiving.IsIdle c
 fresh_receives c lawful fresh = let least = lawful.0 in record {
   unheld = ap (λ es. (rx_records.controlling c.table.slots es).held) fresh;
-  between = ap (λ es. ends_frame ends_segment true (rx_records.controlling c.table.slots es).completed) fresh;
+  at_frame_end = ap (λ es. ends_frame ends_segment true (rx_records.controlling c.table.slots es).completed) fresh;
   head = ap (λ es. (rx_records.controlling c.table.slots es).head) fresh ∙ (nowhere c.table.slots (omega arith) ∙ sym (ap (λ es. length (rx_records.controlling c.table.slots es).completed % c.table.slots) fresh));
 }
 
 pub fresh_transmits : (c : tx.ControllerSide) → c.events ≡ [] → transmitting.IsIdle c
 fresh_transmits c fresh = record {
   unheld = ap (λ es. (tx_records.controlling c.table.slots es).held) fresh;
-  between = ap (λ es. are_whole (tx_records.controlling c.table.slots es).completed) fresh;
+  at_frame_end = ap (λ es. are_whole (tx_records.controlling c.table.slots es).completed) fresh;
   head = λ serves. absurd (false≢true (sym (ap (λ es. is_serving (tx_records.controlling c.table.slots es).state) fresh) ∙ serves));
   paid = ap (λ es. (tx_records.controlling c.table.slots es).barred) fresh;
 }

@@ -128,7 +128,7 @@ ends_frame_with b f old now last new rest pos some whole i h st head e =
       },
       record {
         unheld = ap (λ (x : RxControlled). x.held) e ∙ ap (λ (x : RxControlled). x.held) grew;
-        between = unfinished-whole piece_of (stored new) (ap (unfinished piece_of) after ∙ done.1);
+        at_frame_end = unfinished-whole piece_of (stored new) (ap (unfinished piece_of) after ∙ done.1);
         head = ap (λ (x : RxControlled). x.head) e ∙ (ap (λ (x : RxControlled). length x.completed % controller_size last) (sym e) ∙ ap (λ (t : TableId). length (stored new) % t.slots) (sym same));
       },
       same ∙ (stepped now last s st.stored ∙ i.own),

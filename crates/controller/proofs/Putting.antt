@@ -9,7 +9,7 @@ use Rattle.ring_model.specs.shared.Handshakes.{is_serving}
 use Rattle.ring_model.specs.transmit.Ring.{carried}
 use Rattle.ring_laws.specs.Frames.{unfinished-whole, frames-snoc, unfinished-snoc, join-append}
 use Rattle.tx_ring.specs.Records.{Posting, TxControlled}
-use Rattle.tx_ring.specs.Ends.{ControllerSide, controller_size, controller_record, controller_state, sent, known_ready, held, is_owed, is_between, head_stored, serve_place}
+use Rattle.tx_ring.specs.Ends.{ControllerSide, controller_size, controller_record, controller_state, sent, known_ready, held, is_owed, is_at_frame_end, head_stored, serve_place}
 use Rattle.controller.specs.Chained.{Chained}
 use Rattle.controller.specs.Laid.{Laid}
 use Rattle.controller.specs.Sending.{CanSend, SentBytes, SentOn}
@@ -148,7 +148,7 @@ sends_last old now last new arena arena' arena'' wire i st on_wire begun report 
     }
 
 -- what was sent is whole
-pub sent_whole : (now last : ControllerSide) (arena' arena'' : Laid) → SentBytes now arena' true last arena'' → is_between last ≡ true
+pub sent_whole : (now last : ControllerSide) (arena' arena'' : Laid) → SentBytes now arena' true last arena'' → is_at_frame_end last ≡ true
 sent_whole now last arena' arena'' st = unfinished-whole carried (sent last) (ap (λ (x : TxControlled). unfinished carried x.completed) st.same ∙ unfinished_more (sent now) st.posting true st.ends_is)
 
 -- the head stays where it is stored, as long as nothing is sent

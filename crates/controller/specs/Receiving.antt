@@ -8,7 +8,7 @@ use Rattle.ring_model.specs.shared.Handshakes.{is_serving}
 use Rattle.ring_model.specs.shared.Segments.{Segment, piece_of}
 use Rattle.shared_ring.specs.declared.events.ControllerEvent.TheVariants.{Fetched, StoredHead, Own}
 use Rattle.rx_ring.specs.declared.events.RxControllerOwn.TheVariants.{WroteBack, SaidQuiet}
-use Rattle.rx_ring.specs.Ends.{ControllerSide, controller_size, controller_record, controller_state, stored, known_free, held, is_quiet, is_between, head_stored, serve_place, controller_grown}
+use Rattle.rx_ring.specs.Ends.{ControllerSide, controller_size, controller_record, controller_state, stored, known_free, held, is_quiet, is_at_frame_end, head_stored, serve_place, controller_grown}
 use Rattle.rx_ring.specs.Calls.{FoundFree}
 use Rattle.refusals.specs.declared.errors.CtlError.{CtlError}
 use Rattle.refusals.specs.declared.errors.CtlError.TheVariants.{FrameLength, Memory}
@@ -29,7 +29,7 @@ pub record Receiving : Type 0 where
 -- Nothing is held, the last stored segment ends a frame, and the head is stored after it.
 pub record IsIdle (c : ControllerSide) : Type 0 where
   pub unheld : held c ≡ None
-  pub between : is_between c ≡ true
+  pub at_frame_end : is_at_frame_end c ≡ true
   pub head : head_stored c ≡ serve_place c
 
 -- The end serves its queue and has not said that it stores no more.

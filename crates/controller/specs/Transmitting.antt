@@ -7,7 +7,7 @@ use Rattle.ring_model.specs.transmit.Ring.{carried}
 use Rattle.shared_ring.specs.declared.events.ControllerEvent.TheVariants.{Fetched, Own}
 use Rattle.tx_ring.specs.declared.events.TxControllerOwn.TheVariants.{Sent}
 use Rattle.tx_ring.specs.Records.{Posting, posting_of}
-use Rattle.tx_ring.specs.Ends.{ControllerSide, controller_size, controller_record, controller_state, sent, held, is_owed, is_between, head_stored, serve_place, controller_grown}
+use Rattle.tx_ring.specs.Ends.{ControllerSide, controller_size, controller_record, controller_state, sent, held, is_owed, is_at_frame_end, head_stored, serve_place, controller_grown}
 use Rattle.tx_ring.specs.Calls.{FoundReady, report_of}
 use Rattle.refusals.specs.declared.errors.CtlError.{CtlError}
 use Rattle.refusals.specs.declared.errors.CtlError.TheVariants.{FrameLength, Memory}
@@ -19,7 +19,7 @@ use Rattle.controller.specs.Chained.{Chained}
 -- is owed.
 pub record IsIdle (c : ControllerSide) : Type 0 where
   pub unheld : held c ≡ None
-  pub between : is_between c ≡ true
+  pub at_frame_end : is_at_frame_end c ≡ true
   pub head : is_serving (controller_state c) ≡ true → head_stored c ≡ serve_place c
   pub paid : is_owed c ≡ false
 

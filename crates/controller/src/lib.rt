@@ -1,6 +1,8 @@
 //! The device's side of a queue pair: a controller of a receive ring, and one of a transmit ring.
-//! Depends on `shared_ring`, `rx_ring`, `tx_ring`, `limits` and `refusals`.
-//! The stored frames grow by exactly the frames reported as `Stored`, and the wire by exactly the frames sent.
+//! Depends on `shared_ring`, `rx_ring`, `tx_ring`, `ring_model`, `ring_laws`, `buffer_pool`, `descriptor`, `limits` and
+//! `refusals`.
+//! Guarantees that the stored frames grow by exactly the frames reported as `Stored`, and the wire by exactly the
+//! frames sent.
 //!
 //! An [`RxController`] is offered incoming frames and stores each whole or not at all: it cuts the frame into segments,
 //! fetches a descriptor and writes it back for each, and then stores the head once. A [`TxController`] sends whole

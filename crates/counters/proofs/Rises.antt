@@ -5,9 +5,9 @@ use mathlib.Core.Option.{some, some-ne-none, some-injective}
 use lib.ListN.{get_elem?}
 use Rattle.crossbeam_utils.specs.Register.{Turns, Forks}
 use Rattle.atomic_table.proofs.Lists.{at_set, at_snoc, set_again}
-use Rattle.counters.specs.declared.rule.Known.{Known}
-use Rattle.counters.specs.Moments.{AreMoments, Follows, GoesOn, NoneFalls}
-use Rattle.counters.specs.Rule.{IsWatched, HasRead, HasWritten, known, moments_of, opened, told}
+use Rattle.counters.specs.declared.rule.CellKnowledge.{CellKnowledge}
+use Rattle.counters.specs.Snapshots.{AreSnapshots, Follows, GoesOn, NoneFalls}
+use Rattle.counters.specs.Rule.{HoldsSeqCellRule, HasRead, HasWritten, known, snapshots_of, opened, told}
 
 -- no number falls where nothing changes, nor over two changes at which none does
 same_falls : (xs : List ℕ) → NoneFalls xs xs
@@ -27,18 +27,18 @@ alone a v zero e = (refl, some-injective a v e)
 alone a v (suc j) e = absurd (some-ne-none v (sym e))
 
 module _ {T : Type 0} where
-  abbrev OnePen : List (Known T) → Type 0
-  OnePen all = (p q : ℕ) (j k : Known T) → get_elem? all p ≡ some j → get_elem? all q ≡ some k → j.writes ≡ true → k.writes ≡ true → p ≡ q
+  abbrev OnePen : List (CellKnowledge T) → Type 0
+  OnePen all = (p q : ℕ) (j k : CellKnowledge T) → get_elem? all p ≡ some j → get_elem? all q ≡ some k → j.writes ≡ true → k.writes ≡ true → p ≡ q
 
   -- a pass that writes as before
-  one_set : (all : List (Known T)) (pass : ℕ) (old new : Known T) → get_elem? all pass ≡ some old → new.writes ≡ old.writes → OnePen all → OnePen (set all pass new)
+  one_set : (all : List (CellKnowledge T)) (pass : ℕ) (old new : CellKnowledge T) → get_elem? all pass ≡ some old → new.writes ≡ old.writes → OnePen all → OnePen (set all pass new)
   one_set all pass old new at same one p q j k e f x y = ⊎_elim
       (λ (s : (p ≡ pass) × (new ≡ j)). ⊎_elim
       (λ (t : (q ≡ pass) × (new ≡ k)). s.0 ∙ sym t.0)
-      (λ (t : (q ≢ pass) × (get_elem? all q ≡ some k)). s.0 ∙ one pass q old k at t.1 (sym same ∙ ap (λ (u : Known T). u.writes) s.1 ∙ x) y)
+      (λ (t : (q ≢ pass) × (get_elem? all q ≡ some k)). s.0 ∙ one pass q old k at t.1 (sym same ∙ ap (λ (u : CellKnowledge T). u.writes) s.1 ∙ x) y)
       (at_set all pass q new k f))
       (λ (s : (p ≢ pass) × (get_elem? all p ≡ some j)). ⊎_elim
-      (λ (t : (q ≡ pass) × (new ≡ k)). one p pass j old s.1 at x (sym same ∙ ap (λ (u : Known T). u.writes) t.1 ∙ y) ∙ sym t.0)
+      (λ (t : (q ≡ pass) × (new ≡ k)). one p pass j old s.1 at x (sym same ∙ ap (λ (u : CellKnowledge T). u.writes) t.1 ∙ y) ∙ sym t.0)
       (λ (t : (q ≢ pass) × (get_elem? all q ≡ some k)). one p q j k s.1 t.1 x y)
       (at_set all pass q new k f))
       (at_set all pass p new j e)
@@ -48,10 +48,10 @@ module _ {T : Type 0} where
   head_of x (y ∷ ys) = y
 
 module _ {T : Type 0} (words : T → List ℕ) (lawful : T → Type 0) where
-  pub opens : (opening now : T) → now ≡ opening → lawful now → IsWatched words lawful now (opened opening ∷ [])
-  opens opening now same ok = let one_only : (k : Known T) (pass : ℕ) → get_elem? (opened opening ∷ []) pass ≡ some k → moments_of k ≡ now ∷ [] = λ k pass e. sym (ap (λ (o : T). o ∷ []) same ∙ ap (λ (u : Known T). moments_of u) (alone (opened opening) k pass e).1) in record {
+  pub opens : (opening now : T) → now ≡ opening → lawful now → HoldsSeqCellRule words lawful now (opened opening ∷ [])
+  opens opening now same ok = let one_only : (k : CellKnowledge T) (pass : ℕ) → get_elem? (opened opening ∷ []) pass ≡ some k → snapshots_of k ≡ now ∷ [] = λ k pass e. sym (ap (λ (o : T). o ∷ []) same ∙ ap (λ (u : CellKnowledge T). snapshots_of u) (alone (opened opening) k pass e).1) in record {
     before = [];
-    moments = (ok, tt, tt);
+    snapshots = (ok, tt, tt);
     each = λ pass k e. ([], sym (one_only k pass e));
     pen = λ pass k e writes. one_only k pass e;
     one = λ p q j k e f x y. (alone (opened opening) j p e).0 ∙ sym (alone (opened opening) k q f).0;
@@ -63,51 +63,51 @@ module _ {T : Type 0} (words : T → List ℕ) (lawful : T → Type 0) where
   follows_newest (y ∷ later) old earlier x f = f
 
   -- from any moment to the newest no number falls
-  falls_to_newest : (later : List T) (old : T) (earlier : List T) → AreMoments words lawful (later ++ old ∷ earlier) → NoneFalls (words old) (words (head_of old (later ++ old ∷ earlier)))
+  falls_to_newest : (later : List T) (old : T) (earlier : List T) → AreSnapshots words lawful (later ++ old ∷ earlier) → NoneFalls (words old) (words (head_of old (later ++ old ∷ earlier)))
   falls_to_newest [] old earlier are = same_falls (words old)
   falls_to_newest (x ∷ later) old earlier are = falls_on (words old) (words (head_of old (later ++ old ∷ earlier))) (words x) (falls_to_newest later old earlier are.2) (follows_newest later old earlier x are.1)
 
-  goes_on_falls : (old : T) (earlier : List T) (now : T) (before : List T) → AreMoments words lawful (now ∷ before) → GoesOn (old ∷ earlier) (now ∷ before) → NoneFalls (words old) (words now)
+  goes_on_falls : (old : T) (earlier : List T) (now : T) (before : List T) → AreSnapshots words lawful (now ∷ before) → GoesOn (old ∷ earlier) (now ∷ before) → NoneFalls (words old) (words now)
   goes_on_falls old earlier now before are on = subst (λ (l : List T). NoneFalls (words old) (words (head_of old l))) (sym on.1)
-      (falls_to_newest on.0 old earlier (subst (λ (l : List T). AreMoments words lawful l) on.1 are))
+      (falls_to_newest on.0 old earlier (subst (λ (l : List T). AreSnapshots words lawful l) on.1 are))
 
-  pub reads : (pass : ℕ) (old : Known T) → Turns (IsWatched words lawful) pass old (λ x. x) (HasRead words lawful)
+  pub reads : (pass : ℕ) (old : CellKnowledge T) → Turns (HoldsSeqCellRule words lawful) pass old (λ x. x) (HasRead words lawful)
   reads pass old x all h at =
-      let new : Known T = known old.writes x h.before in (
+      let new : CellKnowledge T = known old.writes x h.before in (
         new,
         record {
           before = h.before;
-          moments = h.moments;
-          each = λ p k e. ⊎_elim (λ (t : (p ≡ pass) × (new ≡ k)). ([], ap (λ (z : Known T). moments_of z) t.1)) (λ (t : (p ≢ pass) × (get_elem? all p ≡ some k)). h.each p k t.1) (at_set all pass p new k e);
-          pen = λ p k e writes. ⊎_elim (λ (t : (p ≡ pass) × (new ≡ k)). sym (ap (λ (z : Known T). moments_of z) t.1)) (λ (t : (p ≢ pass) × (get_elem? all p ≡ some k)). h.pen p k t.1 writes) (at_set all pass p new k e);
+          snapshots = h.snapshots;
+          each = λ p k e. ⊎_elim (λ (t : (p ≡ pass) × (new ≡ k)). ([], ap (λ (z : CellKnowledge T). snapshots_of z) t.1)) (λ (t : (p ≢ pass) × (get_elem? all p ≡ some k)). h.each p k t.1) (at_set all pass p new k e);
+          pen = λ p k e writes. ⊎_elim (λ (t : (p ≡ pass) × (new ≡ k)). sym (ap (λ (z : CellKnowledge T). snapshots_of z) t.1)) (λ (t : (p ≢ pass) × (get_elem? all p ≡ some k)). h.pen p k t.1 writes) (at_set all pass p new k e);
           one = one_set all pass old new at refl h.one;
         },
-        record { writes = refl; now = refl; later = h.each pass old at; lawful_now = h.moments.0; none_falls = goes_on_falls old.last old.earlier x h.before h.moments (h.each pass old at) },
+        record { writes = refl; now = refl; later = h.each pass old at; lawful_now = h.snapshots.0; none_falls = goes_on_falls old.last old.earlier x h.before h.snapshots (h.each pass old at) },
       )
 
-  pub writes : (pass : ℕ) (old : Known T) (x : T) → old.writes ≡ true → lawful x → NoneFalls (words old.last) (words x) → Turns (IsWatched words lawful) pass old (λ _. x) (HasWritten words lawful)
+  pub writes : (pass : ℕ) (old : CellKnowledge T) (x : T) → old.writes ≡ true → lawful x → NoneFalls (words old.last) (words x) → Turns (HoldsSeqCellRule words lawful) pass old (λ _. x) (HasWritten words lawful)
   writes pass old x is ok rises was all h at =
-      let new : Known T = known old.writes x (moments_of old) in
-      let now : moments_of old ≡ was ∷ h.before = h.pen pass old at is in (
+      let new : CellKnowledge T = known old.writes x (snapshots_of old) in
+      let now : snapshots_of old ≡ was ∷ h.before = h.pen pass old at is in (
         new,
         record {
           before = was ∷ h.before;
-          moments = (ok, subst (λ (l : List T). Follows words lawful l x) now rises, h.moments);
-          each = λ p k e. ⊎_elim (λ (t : (p ≡ pass) × (new ≡ k)). ([], ap (λ (l : List T). x ∷ l) (sym now) ∙ ap (λ (z : Known T). moments_of z) t.1))
+          snapshots = (ok, subst (λ (l : List T). Follows words lawful l x) now rises, h.snapshots);
+          each = λ p k e. ⊎_elim (λ (t : (p ≡ pass) × (new ≡ k)). ([], ap (λ (l : List T). x ∷ l) (sym now) ∙ ap (λ (z : CellKnowledge T). snapshots_of z) t.1))
               (λ (t : (p ≢ pass) × (get_elem? all p ≡ some k)). let known_before = h.each p k t.1 in (x ∷ known_before.0, ap (λ (l : List T). x ∷ l) known_before.1)) (at_set all pass p new k e);
-          pen = λ p k e writes. ⊎_elim (λ (t : (p ≡ pass) × (new ≡ k)). sym (ap (λ (l : List T). x ∷ l) (sym now) ∙ ap (λ (z : Known T). moments_of z) t.1))
+          pen = λ p k e writes. ⊎_elim (λ (t : (p ≡ pass) × (new ≡ k)). sym (ap (λ (l : List T). x ∷ l) (sym now) ∙ ap (λ (z : CellKnowledge T). snapshots_of z) t.1))
               (λ (t : (p ≢ pass) × (get_elem? all p ≡ some k)). absurd (t.0 (h.one p pass k old t.1 at writes is))) (at_set all pass p new k e);
           one = one_set all pass old new at refl h.one;
         },
         refl,
       )
 
-  pub gives : (pass : ℕ) (old : Known T) → Forks (IsWatched words lawful) pass old old (told old)
-  gives pass old x all h at = subst (λ (l : List (Known T)). IsWatched words lawful x (l ++ told old ∷ [])) (sym (set_again all pass old at)) (record {
+  pub gives : (pass : ℕ) (old : CellKnowledge T) → Forks (HoldsSeqCellRule words lawful) pass old old (told old)
+  gives pass old x all h at = subst (λ (l : List (CellKnowledge T)). HoldsSeqCellRule words lawful x (l ++ told old ∷ [])) (sym (set_again all pass old at)) (record {
     before = h.before;
-    moments = h.moments;
-    each = λ p k e. ⊎_elim (λ was. h.each p k was) (λ (same : told old ≡ k). subst (λ (z : Known T). GoesOn (moments_of z) (x ∷ h.before)) same (h.each pass old at)) (at_snoc all (told old) k p e);
-    pen = λ p k e writes. ⊎_elim (λ was. h.pen p k was writes) (λ (same : told old ≡ k). absurd (false≢true (ap (λ (z : Known T). z.writes) same ∙ writes))) (at_snoc all (told old) k p e);
-    one = λ p q j k e f y z. ⊎_elim (λ was. ⊎_elim (λ also. h.one p q j k was also y z) (λ (same : told old ≡ k). absurd (false≢true (ap (λ (u : Known T). u.writes) same ∙ z))) (at_snoc all (told old) k q f))
-        (λ (same : told old ≡ j). absurd (false≢true (ap (λ (u : Known T). u.writes) same ∙ y))) (at_snoc all (told old) j p e);
+    snapshots = h.snapshots;
+    each = λ p k e. ⊎_elim (λ was. h.each p k was) (λ (same : told old ≡ k). subst (λ (z : CellKnowledge T). GoesOn (snapshots_of z) (x ∷ h.before)) same (h.each pass old at)) (at_snoc all (told old) k p e);
+    pen = λ p k e writes. ⊎_elim (λ was. h.pen p k was writes) (λ (same : told old ≡ k). absurd (false≢true (ap (λ (z : CellKnowledge T). z.writes) same ∙ writes))) (at_snoc all (told old) k p e);
+    one = λ p q j k e f y z. ⊎_elim (λ was. ⊎_elim (λ also. h.one p q j k was also y z) (λ (same : told old ≡ k). absurd (false≢true (ap (λ (u : CellKnowledge T). u.writes) same ∙ z))) (at_snoc all (told old) k q f))
+        (λ (same : told old ≡ j). absurd (false≢true (ap (λ (u : CellKnowledge T). u.writes) same ∙ y))) (at_snoc all (told old) j p e);
   })

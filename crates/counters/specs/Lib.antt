@@ -1,6 +1,6 @@
 pub mod Kinds
 pub mod Paired
-pub mod Moments
+pub mod Snapshots
 pub mod Rule
 pub mod Viewed
-pub mod Watching
+pub mod Cells

@@ -4,7 +4,7 @@ use Rattle.std.specs.List.{AllZip}
 use Rattle.counters.specs.declared.flows.FlowCells.{FlowCells}
 use Rattle.counters.specs.declared.flows.FlowPens.{FlowPens}
 use Rattle.counters.specs.Kinds.{none_offered, none_taken}
-use Rattle.counters.specs.Watching.{fresh}
+use Rattle.counters.specs.Cells.{fresh}
 
 -- The pens of these cells, with nothing written yet.
 pub record IsFresh (cells : FlowCells) (pens : FlowPens) : Type 0 where

@@ -1,7 +1,7 @@
 //! The kinds of cells: their numbers, the relation between these, and the names of their cells.
 
-use crate::cell::{MomentCell, MomentPass, MomentPen};
-use crate::moment::Moment;
+use crate::cell::{SnapshotCell, SnapshotPass, SnapshotPen};
+use crate::snapshot::Snapshot;
 use crossbeam_utils::atomic::seq_cell::Words;
 use limits::{LEAST_FRAME, MOST_FRAME};
 
@@ -57,7 +57,7 @@ impl Words<4> for Offered {
     }
 }
 
-impl Moment<4> for Offered {
+impl Snapshot<4> for Offered {
     ghost use Rattle.counters.specs.Kinds.{AddsUp, none_offered};
 
     ghost lawful = { AddsUp };
@@ -98,7 +98,7 @@ impl Words<3> for Driven {
     }
 }
 
-impl Moment<3> for Driven {
+impl Snapshot<3> for Driven {
     ghost use Rattle.counters.specs.Kinds.{WasTaken, none_taken};
 
     ghost lawful = { WasTaken };
@@ -135,7 +135,7 @@ impl Words<2> for Bytes {
     }
 }
 
-impl Moment<2> for Bytes {
+impl Snapshot<2> for Bytes {
     ghost use Rattle.counters.specs.Kinds.{FillFrames, no_bytes};
 
     ghost lawful = { FillFrames };
@@ -157,28 +157,28 @@ impl Moment<2> for Bytes {
 }
 
 /// The cell of a controller: the frames that it was offered.
-pub type StatCell = MomentCell<Offered, 4>;
+pub type StatCell = SnapshotCell<Offered, 4>;
 
 /// The pen of a [`StatCell`].
-pub type StatPen = MomentPen<Offered, 4>;
+pub type StatPen = SnapshotPen<Offered, 4>;
 
 /// A pass of a [`StatCell`].
-pub type StatPass = MomentPass<Offered>;
+pub type StatPass = SnapshotPass<Offered>;
 
 /// The cell of a driver: its counts of the frames that it took.
-pub type DriveCell = MomentCell<Driven, 3>;
+pub type DriveCell = SnapshotCell<Driven, 3>;
 
 /// The pen of a [`DriveCell`].
-pub type DrivePen = MomentPen<Driven, 3>;
+pub type DrivePen = SnapshotPen<Driven, 3>;
 
 /// A pass of a [`DriveCell`].
-pub type DrivePass = MomentPass<Driven>;
+pub type DrivePass = SnapshotPass<Driven>;
 
 /// The frames and bytes of a queue.
-pub type ByteCell = MomentCell<Bytes, 2>;
+pub type ByteCell = SnapshotCell<Bytes, 2>;
 
 /// The pen of a [`ByteCell`].
-pub type BytePen = MomentPen<Bytes, 2>;
+pub type BytePen = SnapshotPen<Bytes, 2>;
 
 /// A pass of a [`ByteCell`].
-pub type BytePass = MomentPass<Bytes>;
+pub type BytePass = SnapshotPass<Bytes>;

@@ -1,15 +1,16 @@
 //! A few numbers that one thread writes and others read, and the counters of flows, which are such numbers.
 //! Depends on `refusals`, `limits`, `crossbeam_utils` and `atomic_table`.
-//! A read returns the lawful numbers of one moment, and no number falls from one read of a pass to the next.
+//! Guarantees that a read returns the lawful numbers of one moment, and that no number falls from one read of a pass to
+//! the next.
 //!
-//! A [`MomentCell`] holds the numbers. One [`MomentPen`] writes them, all at one moment, and any number of
-//! [`MomentPass`]es read them, each from its own thread. A read shows the numbers of one moment that was written, or of
-//! the opening, in which all are 0. The relation of their kind ([`Moment`]) holds between them, and none is below those
+//! A [`SnapshotCell`] holds the numbers. One [`SnapshotPen`] writes them, all at one moment, and any number of
+//! [`SnapshotPass`]es read them, each from its own thread. A read shows the numbers of one moment that was written, or of
+//! the opening, in which all are 0. The relation of their kind ([`Snapshot`]) holds between them, and none is below those
 //! that this pass has read, nor below those that the pen had written when it made the pass. `rule` has this rule, which
 //! each step of any thread keeps, and `numbers` the words under it.
 //!
 //! [`StatCell`] has the frames offered to a queue, [`DriveCell`] a driver's counts of the frames that it took, and
-//! [`ByteCell`] frames and bytes. A further kind of cell needs its numbers, their relation ([`Moment`]) and its names.
+//! [`ByteCell`] frames and bytes. A further kind of cell needs its numbers, their relation ([`Snapshot`]) and its names.
 //! [`FlowCells`] has one cell for each side of a flow, and [`FlowPens`] their pens.
 //!
 //! Making a cell allocates; no other call does. A call that reads or writes may wait, and no bound is stated: a write
@@ -20,16 +21,16 @@
 mod cell;
 mod flows;
 mod kinds;
-mod moment;
 mod numbers;
 mod rule;
+mod snapshot;
 
-pub use cell::{MomentCell, MomentPass, MomentPen};
+pub use cell::{SnapshotCell, SnapshotPass, SnapshotPen};
 pub use flows::{FlowCells, FlowPens};
 pub use kinds::{
     ByteCell, BytePass, BytePen, Bytes, DriveCell, DrivePass, DrivePen, Driven, Offered, StatCell,
     StatPass, StatPen,
 };
-pub use moment::Moment;
-pub use numbers::{Numbers, View};
+pub use numbers::{CellHolder, Numbers};
 pub use refusals::CounterError;
+pub use snapshot::Snapshot;

@@ -2,17 +2,17 @@
 ghost use Rattle.std.specs.Prelude.{◌≡◌, true, [], ◌∷◌};
 ghost use Rattle.crossbeam_utils.specs.Register.{Forks, Turns};
 ghost use Rattle.crossbeam_utils.specs.Seq.{cell_view};
-ghost use Rattle.counters.specs.Moments.{NoneFalls};
-ghost use Rattle.counters.specs.Rule.{IsWatched, HasRead, HasWritten, opened, same, told};
+ghost use Rattle.counters.specs.Snapshots.{NoneFalls};
+ghost use Rattle.counters.specs.Rule.{HoldsSeqCellRule, HasRead, HasWritten, opened, same, told};
 
-use crate::Moment;
+use crate::Snapshot;
 use atomic_table::Split;
 use crossbeam_utils::atomic::seq_cell::Pass;
 use crossbeam_utils::rule::{Outcome, Protocol};
 use std::collections::LinkedList;
 
 /// The knowledge of a view, for contracts alone; no value of it exists at run time.
-pub struct Known<T> {
+pub struct CellKnowledge<T> {
     /// Whether the view writes.
     pub writes: bool,
     /// The newest moment that it knows.
@@ -23,12 +23,12 @@ pub struct Known<T> {
 
 /// The rule of the words: the moments that were written, in this order, each lawful and with no number that falls. The
 /// words hold the newest one, the view that writes knows them all, and each other view knows them up to one of them.
-pub struct Watched<const N: usize>;
+pub struct SeqCellRule<const N: usize>;
 
-impl<T: Moment<N>, const N: usize> Protocol<T, Known<T>> for Watched<N> {
-    ghost use Rattle.counters.specs.Rule.{IsWatched, opened};
+impl<T: Snapshot<N>, const N: usize> Protocol<T, CellKnowledge<T>> for SeqCellRule<N> {
+    ghost use Rattle.counters.specs.Rule.{HoldsSeqCellRule, opened};
 
-    ghost holds = { IsWatched T.words T.lawful };
+    ghost holds = { HoldsSeqCellRule T.words T.lawful };
 
     ghost first = { opened T.opening };
 }
@@ -36,7 +36,7 @@ impl<T: Moment<N>, const N: usize> Protocol<T, Known<T>> for Watched<N> {
 /// A view reads.
 pub(crate) struct Reads<const N: usize>;
 
-impl<T: Moment<N>, const N: usize> Outcome<T, Known<T>> for Reads<N> {
+impl<T: Snapshot<N>, const N: usize> Outcome<T, CellKnowledge<T>> for Reads<N> {
     ghost use Rattle.counters.specs.Rule.{HasRead};
 
     ghost then = { HasRead T.words T.lawful };
@@ -45,7 +45,7 @@ impl<T: Moment<N>, const N: usize> Outcome<T, Known<T>> for Reads<N> {
 /// The view that writes does so.
 pub(crate) struct Writes<const N: usize>;
 
-impl<T: Moment<N>, const N: usize> Outcome<T, Known<T>> for Writes<N> {
+impl<T: Snapshot<N>, const N: usize> Outcome<T, CellKnowledge<T>> for Writes<N> {
     ghost use Rattle.counters.specs.Rule.{HasWritten};
 
     ghost then = { HasWritten T.words T.lawful };
@@ -54,7 +54,7 @@ impl<T: Moment<N>, const N: usize> Outcome<T, Known<T>> for Writes<N> {
 /// A view splits off another.
 pub(crate) struct Tells;
 
-impl<T> Split<Known<T>> for Tells {
+impl<T> Split<CellKnowledge<T>> for Tells {
     ghost use Rattle.counters.specs.Rule.{same, told};
 
     ghost left = { same };
@@ -66,26 +66,29 @@ impl<T> Split<Known<T>> for Tells {
 // this as a known fact, and needs no answers of its own, which the prover would state slowly there.
 
 /// The rule holds of new words.
-pub(crate) fn may_open<T: Moment<N>, const N: usize>(now: T)
+pub(crate) fn may_open<T: Snapshot<N>, const N: usize>(now: T)
     requires opening { now ≡ T.opening }
     requires lawful { T.lawful now }
-    ensures { IsWatched T.words T.lawful now (opened T.opening ∷ []) }
+    ensures { HoldsSeqCellRule T.words T.lawful now (opened T.opening ∷ []) }
 {}
 
 /// Any view may read.
-pub(crate) fn may_read<T: Moment<N>, const N: usize>(pass: &Pass<T, Known<T>>)
-    ensures { Turns (IsWatched T.words T.lawful) pass.now.id (cell_view pass.now) (λ x. x) (HasRead T.words T.lawful) }
+pub(crate) fn may_read<T: Snapshot<N>, const N: usize>(pass: &Pass<T, CellKnowledge<T>>)
+    ensures { Turns (HoldsSeqCellRule T.words T.lawful) pass.now.id (cell_view pass.now) (λ x. x) (HasRead T.words T.lawful) }
 {}
 
 /// The view that writes may write lawful numbers, none of them below the last one that it wrote.
-pub(crate) fn may_write<T: Moment<N>, const N: usize>(pass: &Pass<T, Known<T>>, numbers: T)
+pub(crate) fn may_write<T: Snapshot<N>, const N: usize>(
+    pass: &Pass<T, CellKnowledge<T>>,
+    numbers: T,
+)
     requires writes { (cell_view pass.now).writes ≡ true }
     requires lawful { T.lawful numbers }
     requires none_falls { NoneFalls (T.words (cell_view pass.now).last) (T.words numbers) }
-    ensures { Turns (IsWatched T.words T.lawful) pass.now.id (cell_view pass.now) (λ _. numbers) (HasWritten T.words T.lawful) }
+    ensures { Turns (HoldsSeqCellRule T.words T.lawful) pass.now.id (cell_view pass.now) (λ _. numbers) (HasWritten T.words T.lawful) }
 {}
 
 /// Any view may split off another.
-pub(crate) fn may_tell<T: Moment<N>, const N: usize>(pass: &Pass<T, Known<T>>)
-    ensures { Forks (IsWatched T.words T.lawful) pass.now.id (cell_view pass.now) (same (cell_view pass.now)) (told (cell_view pass.now)) }
+pub(crate) fn may_tell<T: Snapshot<N>, const N: usize>(pass: &Pass<T, CellKnowledge<T>>)
+    ensures { Forks (HoldsSeqCellRule T.words T.lawful) pass.now.id (cell_view pass.now) (same (cell_view pass.now)) (told (cell_view pass.now)) }
 {}

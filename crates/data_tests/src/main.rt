@@ -1,10 +1,12 @@
 //! A test program for files: captures made by other programs, and the C header of the library.
+//! Depends on `capture`, and the crates whose constants the header has.
+//! Guarantees nothing; the gate compares its output.
 //!
 //! `data_tests read FILE..` prints each file's name. Of a capture it prints a line for each frame: its time, its length
 //! on the wire and its bytes, as `tshark` prints them; or the refusal. Of a header it prints each constant that has the
 //! library's value, and each that does not. The gate runs it on the files in `data/` and compares its output with the
-//! output of `tshark`, and with the expected constants. `data_tests write FROM TO` rewrites a capture with times in
-//! microseconds; it is run by hand. `part_tests` has further tests of captures.
+//! output of `tshark`; `checks/header` runs it on `include/poll82599.h`. `data_tests write FROM TO` rewrites a capture
+//! with times in microseconds; it is run by hand. `part_tests` has further tests of captures.
 #![tactic(auto)]
 
 mod header;

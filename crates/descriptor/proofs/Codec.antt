@@ -5,7 +5,7 @@ use Rattle.refusals.specs.declared.errors.DescError.{DescError}
 use Rattle.refusals.specs.declared.errors.DescError.TheVariants.{Length, Reserved, Kind, Size}
 use Rattle.descriptor.specs.Refusal.{IsLowest}
 use Rattle.refusals.specs.DescError.{refusal_number}
-use Rattle.descriptor.specs.Layout.{Name, Form, Field, Content, Keeps, KeepsField, KeepsWords, KeepsBytes, HasWords, EachField, AreWords, AreBytes, read, first_word, second_word}
+use Rattle.descriptor.specs.Layout.{Name, WordLayout, Field, Content, Keeps, KeepsField, KeepsWords, KeepsBytes, HasWords, EachField, AreWords, AreBytes, read, first_word, second_word}
 use Rattle.descriptor.proofs.Bytes.{first-read, second-read}
 use Rattle.descriptor.proofs.Fields.{IsWhole, IsNarrow, IsKept, AreSame, keeps-form, words-same}
 use Rattle.descriptor.proofs.Refusals.{Decodes, Decodes-ok, Decodes-err}
@@ -19,10 +19,10 @@ each-length : (w : ℕ) (fs : List Field) → EachField (KeepsField Length w) fs
 each-length w [] = tt
 each-length w (f ∷ fs) = (keeps-length w f.content (read w f), each-length w fs)
 
-words-length : (form : Form) (first second : ℕ) → KeepsWords form first second Length
+words-length : (form : WordLayout) (first second : ℕ) → KeepsWords form first second Length
 words-length form first second = record { in_first = each-length first form.first; in_second = each-length second form.second }
 
-pub lowest-reserved : (form : Form) (first second : ℕ) → ¬ KeepsWords form first second Reserved → IsLowest (KeepsWords form first second) Reserved
+pub lowest-reserved : (form : WordLayout) (first second : ℕ) → ¬ KeepsWords form first second Reserved → IsLowest (KeepsWords form first second) Reserved
 lowest-reserved form first second broken = record {
   broken = broken;
   lowest = λ lower below. elim lower as (λ e. refusal_number e < 2 → KeepsWords form first second e) [
@@ -33,7 +33,7 @@ lowest-reserved form first second broken = record {
   ] below;
 }
 
-pub lowest-kind : (form : Form) (first second : ℕ) → KeepsWords form first second Reserved → ¬ KeepsWords form first second Kind
+pub lowest-kind : (form : WordLayout) (first second : ℕ) → KeepsWords form first second Reserved → ¬ KeepsWords form first second Kind
     → IsLowest (KeepsWords form first second) Kind
 lowest-kind form first second reserved broken = record {
   broken = broken;
@@ -45,7 +45,7 @@ lowest-kind form first second reserved broken = record {
   ] below;
 }
 
-pub lowest-size : (form : Form) (first second : ℕ) → KeepsWords form first second Reserved → KeepsWords form first second Kind
+pub lowest-size : (form : WordLayout) (first second : ℕ) → KeepsWords form first second Reserved → KeepsWords form first second Kind
     → ¬ KeepsWords form first second Size → IsLowest (KeepsWords form first second) Size
 lowest-size form first second reserved kinds broken = record {
   broken = broken;
@@ -62,13 +62,13 @@ lowest-moved K K' onto back e h = record { broken = λ k. h.broken (back e k); l
 
 -- ---- a form, and the descriptors that have it
 
-pub record IsCodec {D : Type 0} (form : Form) (numbers : D → Name → ℕ) : Type 0 where
+pub record IsCodec {D : Type 0} (form : WordLayout) (numbers : D → Name → ℕ) : Type 0 where
   pub whole : IsWhole form
   pub narrow : (d : D) → IsNarrow form (numbers d)
   pub kept : (d : D) (e : DescError) → IsKept form (numbers d) e
   pub alone : (d other : D) → AreSame form (numbers d) (numbers other) → d ≡ other
 
-module _ {D : Type 0} (form : Form) (numbers : D → Name → ℕ) (codec : IsCodec form numbers) where
+module _ {D : Type 0} (form : WordLayout) (numbers : D → Name → ℕ) (codec : IsCodec form numbers) where
   keeps : (first second : ℕ) (d : D) → AreWords form (numbers d) first second → (e : DescError) → KeepsWords form first second e
   keeps first second d words e =
       keeps-form form (numbers d) codec.whole (codec.narrow d) e (codec.kept d e) first second words.0 words.1
@@ -88,7 +88,7 @@ module _ {D : Type 0} (form : Form) (numbers : D → Name → ℕ) (codec : IsCo
 
 -- ---- in bytes: each word has 64 bits, so of 16 bytes the words decide
 
-module _ {D : Type 0} (form : Form) (numbers : D → Name → ℕ) (fits : (d : D) → (first_word form (numbers d) < 2 ^ 64) × (second_word form (numbers d) < 2 ^ 64)) where
+module _ {D : Type 0} (form : WordLayout) (numbers : D → Name → ℕ) (fits : (d : D) → (first_word form (numbers d) < 2 ^ 64) × (second_word form (numbers d) < 2 ^ 64)) where
   words-of : (bytes : List ℕ) (d : D) → AreBytes form (numbers d) bytes → AreWords form (numbers d) (little_number 8 bytes) (little_number 8 (drop 8 bytes))
   words-of bytes d same =
       let a : ℕ = first_word form (numbers d) in

@@ -4,7 +4,7 @@ use Rattle.std.proofs.lemmas.Nat.{pow-add, shr-shr, shr_split, shr_high, mod_low
 use Rattle.std.proofs.Math.Nat.{mul-le-mul_right}
 use Rattle.refusals.specs.declared.errors.DescError.{DescError}
 use Rattle.refusals.specs.declared.errors.DescError.TheVariants.{Reserved}
-use Rattle.descriptor.specs.Layout.{Name, Form, Field, Content, fixed, word_of, read, EachField, Keeps, KeepsField, KeepsWords, number_in, first_word, second_word}
+use Rattle.descriptor.specs.Layout.{Name, WordLayout, Field, Content, fixed, word_of, read, EachField, Keeps, KeepsField, KeepsWords, number_in, first_word, second_word}
 
 -- the fields lie side by side from bit b up to bit 63
 abbrev pub Tiles : ℕ → List Field → Type 0
@@ -105,7 +105,7 @@ read-made n fs tiles narrow w e =
 
 -- ---- a whole form
 
-pub record IsWhole (form : Form) : Type 0 where
+pub record IsWhole (form : WordLayout) : Type 0 where
   pub first : Tiles 0 form.first
   pub second : Tiles 0 form.second
 
@@ -116,16 +116,16 @@ keeps-made e w n (f ∷ fs) (here, rest) (mine, others) =
     (subst (Keeps e w f.content) (sym here) mine, keeps-made e w n fs rest others)
 
 -- numbers that fit into the fields
-pub record IsNarrow (form : Form) (numbers : Name → ℕ) : Type 0 where
+pub record IsNarrow (form : WordLayout) (numbers : Name → ℕ) : Type 0 where
   pub first : EachField (Narrow (number_in numbers)) form.first
   pub second : EachField (Narrow (number_in numbers)) form.second
 
 -- a word with these numbers in it keeps what the refusal e speaks of
-pub record IsKept (form : Form) (numbers : Name → ℕ) (e : DescError) : Type 0 where
+pub record IsKept (form : WordLayout) (numbers : Name → ℕ) (e : DescError) : Type 0 where
   pub first : (w : ℕ) → EachField (λ f. read w f ≡ number_in numbers f) form.first → EachField (λ f. Keeps e w f.content (number_in numbers f)) form.first
   pub second : (w : ℕ) → EachField (λ f. read w f ≡ number_in numbers f) form.second → EachField (λ f. Keeps e w f.content (number_in numbers f)) form.second
 
-pub keeps-form : (form : Form) (numbers : Name → ℕ) → IsWhole form → IsNarrow form numbers → (e : DescError) → IsKept form numbers e
+pub keeps-form : (form : WordLayout) (numbers : Name → ℕ) → IsWhole form → IsNarrow form numbers → (e : DescError) → IsKept form numbers e
     → (first second : ℕ) → first ≡ first_word form numbers → second ≡ second_word form numbers → KeepsWords form first second e
 keeps-form form numbers whole narrow e kept first second one two =
     let n : Field → ℕ = number_in numbers in
@@ -146,19 +146,19 @@ made-same n m fs tiles narrow narrow' e =
     both [] a b = tt
     both (g ∷ gs) (a, more) (b, more') = (sym a ∙ b, both gs more more')
 
-pub record AreSame (form : Form) (numbers numbers' : Name → ℕ) : Type 0 where
+pub record AreSame (form : WordLayout) (numbers numbers' : Name → ℕ) : Type 0 where
   pub first : EachField (λ f. number_in numbers f ≡ number_in numbers' f) form.first
   pub second : EachField (λ f. number_in numbers f ≡ number_in numbers' f) form.second
 
-pub words-same : (form : Form) (numbers numbers' : Name → ℕ) → IsWhole form → IsNarrow form numbers → IsNarrow form numbers'
+pub words-same : (form : WordLayout) (numbers numbers' : Name → ℕ) → IsWhole form → IsNarrow form numbers → IsNarrow form numbers'
     → first_word form numbers ≡ first_word form numbers' → second_word form numbers ≡ second_word form numbers' → AreSame form numbers numbers'
 words-same form numbers numbers' whole narrow narrow' one two = record {
   first = made-same (number_in numbers) (number_in numbers') form.first whole.first narrow.first narrow'.first one;
   second = made-same (number_in numbers) (number_in numbers') form.second whole.second narrow.second narrow'.second two;
 }
 
-pub first-lt : (form : Form) (numbers : Name → ℕ) → IsWhole form → IsNarrow form numbers → first_word form numbers < 2 ^ 64
+pub first-lt : (form : WordLayout) (numbers : Name → ℕ) → IsWhole form → IsNarrow form numbers → first_word form numbers < 2 ^ 64
 first-lt form numbers whole narrow = omega (arith, word_of-lt (number_in numbers) 0 0 form.first whole.first narrow.first (omega arith))
 
-pub second-lt : (form : Form) (numbers : Name → ℕ) → IsWhole form → IsNarrow form numbers → second_word form numbers < 2 ^ 64
+pub second-lt : (form : WordLayout) (numbers : Name → ℕ) → IsWhole form → IsNarrow form numbers → second_word form numbers < 2 ^ 64
 second-lt form numbers whole narrow = omega (arith, word_of-lt (number_in numbers) 0 0 form.second whole.second narrow.second (omega arith))

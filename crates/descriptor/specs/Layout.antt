@@ -81,15 +81,15 @@ abbrev pub word_of : (Field → ℕ) → List Field → ℕ
 word_of n [] = 0
 word_of n (f ∷ fs) = n f * 2 ^ f.first + word_of n fs
 
-pub record Form : Type 0 where
+pub record WordLayout : Type 0 where
   pub first : List Field
   pub second : List Field
 
 -- The two words of a form with a descriptor's numbers.
-abbrev pub first_word : Form → (Name → ℕ) → ℕ
+abbrev pub first_word : WordLayout → (Name → ℕ) → ℕ
 first_word form numbers = word_of (number_in numbers) form.first
 
-abbrev pub second_word : Form → (Name → ℕ) → ℕ
+abbrev pub second_word : WordLayout → (Name → ℕ) → ℕ
 second_word form numbers = word_of (number_in numbers) form.second
 
 -- Two words as 16 bytes, each with its lowest byte first.
@@ -97,10 +97,10 @@ abbrev pub bytes_of : ℕ → ℕ → List ℕ
 bytes_of first second = little_bytes 8 first ++ little_bytes 8 second
 
 -- The words, or the bytes, are those of a form with a descriptor's numbers.
-abbrev pub AreWords : Form → (Name → ℕ) → ℕ → ℕ → Type 0
+abbrev pub AreWords : WordLayout → (Name → ℕ) → ℕ → ℕ → Type 0
 AreWords form numbers first second = (first ≡ first_word form numbers) × (second ≡ second_word form numbers)
 
-abbrev pub AreBytes : Form → (Name → ℕ) → List ℕ → Type 0
+abbrev pub AreBytes : WordLayout → (Name → ℕ) → List ℕ → Type 0
 AreBytes form numbers bytes = bytes ≡ bytes_of (first_word form numbers) (second_word form numbers)
 
 -- 16 bytes, and the two words in them.
@@ -132,11 +132,11 @@ EachField P [] = ⊤
 EachField P (f ∷ fs) = P f × EachField P fs
 
 -- Both words keep the rule in each of their fields.
-pub record KeepsWords (form : Form) (first second : ℕ) (e : DescError) : Type 0 where
+pub record KeepsWords (form : WordLayout) (first second : ℕ) (e : DescError) : Type 0 where
   pub in_first : EachField (KeepsField e first) form.first
   pub in_second : EachField (KeepsField e second) form.second
 
 -- The same for bytes. For `Length`, there are 16 of them.
-abbrev pub KeepsBytes : Form → List ℕ → DescError → Type 0
+abbrev pub KeepsBytes : WordLayout → List ℕ → DescError → Type 0
 KeepsBytes form bytes Length = length bytes ≡ 16
 KeepsBytes form bytes e = KeepsWords form (little_number 8 bytes) (little_number 8 (drop 8 bytes)) e

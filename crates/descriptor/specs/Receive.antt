@@ -5,11 +5,11 @@ use Rattle.limits.specs.declared.profile.TheConstants.{BUFFER_BYTES}
 use Rattle.descriptor.specs.declared.rx_back.RxBack.{RxBack}
 use Rattle.descriptor.specs.declared.rx_read.RxRead.{RxRead}
 use Rattle.descriptor.specs.Address.{address_fields}
-use Rattle.descriptor.specs.Layout.{Name, BufferNumber, HeaderAddress, DescriptorDone, RssType, PacketType, RscCount, HeaderLength, SplitHeader, RssHash, EndOfPacket, ExtendedStatus, ExtendedError, PacketLength, VlanTag, fixed, flag, range, field, bit, Form, first_word, second_word, bytes_of}
+use Rattle.descriptor.specs.Layout.{Name, BufferNumber, HeaderAddress, DescriptorDone, RssType, PacketType, RscCount, HeaderLength, SplitHeader, RssHash, EndOfPacket, ExtendedStatus, ExtendedError, PacketLength, VlanTag, fixed, flag, range, field, bit, WordLayout, first_word, second_word, bytes_of}
 
 -- ---- 7.1.6.1, read format
 
-abbrev pub rx_read_form : Form
+abbrev pub rx_read_form : WordLayout
 rx_read_form = record {
   first = address_fields;  -- Packet Buffer Address, 63:1, and A0/NSE, 0
   second =
@@ -34,7 +34,7 @@ rx_read_bytes d = bytes_of (rx_read_first d) (rx_read_second d)
 
 -- ---- 7.1.6.2, write-back format
 
-abbrev pub rx_back_form : Form
+abbrev pub rx_back_form : WordLayout
 rx_back_form = record {
   first =
       field RssType 0 4 (fixed 0)  -- RSS Type, 3:0

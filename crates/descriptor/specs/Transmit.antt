@@ -5,11 +5,11 @@ use Rattle.limits.specs.declared.profile.TheConstants.{BUFFER_BYTES, LEAST_FRAME
 use Rattle.descriptor.specs.declared.tx_back.TxBack.{TxBack}
 use Rattle.descriptor.specs.declared.tx_read.TxRead.{TxRead}
 use Rattle.descriptor.specs.Address.{address_fields}
-use Rattle.descriptor.specs.Layout.{Name, BufferNumber, DataLength, MacOptions, DescriptorType, EndOfPacket, InsertFcs, ReportStatus, DescriptorExtension, VlanEnable, SegmentationEnable, Status, ContextIndex, CheckContext, PacketOptions, PayloadLength, DescriptorDone, Rsv, fixed, kind, flag, flag_under, range, field, bit, Form, first_word, second_word, bytes_of}
+use Rattle.descriptor.specs.Layout.{Name, BufferNumber, DataLength, MacOptions, DescriptorType, EndOfPacket, InsertFcs, ReportStatus, DescriptorExtension, VlanEnable, SegmentationEnable, Status, ContextIndex, CheckContext, PacketOptions, PayloadLength, DescriptorDone, Rsv, fixed, kind, flag, flag_under, range, field, bit, WordLayout, first_word, second_word, bytes_of}
 
 -- ---- read format
 
-abbrev pub tx_read_form : Form
+abbrev pub tx_read_form : WordLayout
 tx_read_form = record {
   first = address_fields;  -- Address, 63:0
   second =
@@ -67,7 +67,7 @@ paylen_of word = word / 2 ^ 46
 
 -- ---- write-back format
 
-abbrev pub tx_back_form : Form
+abbrev pub tx_back_form : WordLayout
 tx_back_form = record {
   first = field Rsv 0 64 (fixed 0) ∷ [];  -- RSV, 63:0
   second =

@@ -9,10 +9,10 @@ use crate::words::{bytes_from_words, words_from_bytes};
 pub trait Descriptor: Sized {
     ghost use Rattle.refusals.specs.declared.errors.DescError.{DescError};
     ghost use Rattle.descriptor.specs.Refusal.{IsLowest};
-    ghost use Rattle.descriptor.specs.Layout.{Name, Form, first_word, second_word, AreWords, AreBytes, KeepsWords, KeepsBytes};
+    ghost use Rattle.descriptor.specs.Layout.{Name, WordLayout, first_word, second_word, AreWords, AreBytes, KeepsWords, KeepsBytes};
 
     /// The datasheet's figure.
-    ghost form: { Form };
+    ghost form: { WordLayout };
 
     /// The number of a descriptor in each field of the figure.
     ghost numbers: { Self → Name → ℕ };

@@ -1,6 +1,7 @@
 //! The descriptors of the Intel 82599, each 16 bytes: two little-endian words of 64 bits.
 //! Depends on `limits`, `refusals` and `byteorder`.
-//! Encoding and decoding are exact inverses, and every value satisfies the project's profile of the controller.
+//! Guarantees that encoding and decoding are exact inverses, and that every value satisfies the project's profile of
+//! the controller.
 //!
 //! There are four forms: the descriptors that the driver posts to receive ([`RxRead`]) and to transmit ([`TxRead`]),
 //! and those that the controller writes back in their place ([`RxBack`], [`TxBack`]). The bytes do not determine the

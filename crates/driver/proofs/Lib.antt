@@ -1,5 +1,5 @@
 pub mod Running
-pub mod Shaking
+pub mod ControlStepping
 pub mod Returning
 pub mod receive
 pub mod transmit

@@ -1,6 +1,7 @@
 //! A poll-mode driver over the rings' driver ends, in batches, in the manner of ixy's ixgbe driver.
-//! Depends on `shared_ring`, `rx_ring`, `tx_ring`, `ring_model`, `buffer_pool`, `limits`, `refusals` and `arrayvec`.
-//! Each contract states which steps a call makes and how it extends the lists of its end.
+//! Depends on `shared_ring`, `rx_ring`, `tx_ring`, `ring_model`, `ring_laws`, `buffer_pool`, `limits`, `refusals` and
+//! `arrayvec`.
+//! Guarantees which steps each call makes and how it extends the lists of its end.
 //!
 //! An [`RxDriver`] owns the driver's end of a receive ring. It takes completed packets, posts empty buffers of a stash
 //! in their place, and keeps the chain of an unfinished frame. A [`TxDriver`] owns the driver's end of a transmit ring.

@@ -6,7 +6,7 @@ use Rattle.pool.proofs.Totals.{total-append, total-without}
 use Rattle.pool.proofs.Accounts.{contained, only, only-itself}
 use Rattle.driver.specs.receive.Returns.{numbers_of}
 use Rattle.driver.specs.transmit.Frames.{numbers_in}
-use Rattle.lending.proofs.Weights.{total-packets}
+use Rattle.buffer_accounting.proofs.Weights.{total-packets}
 use Rattle.flows.specs.Holding.{HoldsJust, Holds, Keeps}
 
 -- nothing was done

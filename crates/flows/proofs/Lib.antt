@@ -5,5 +5,5 @@ pub mod Meets
 pub mod Offers
 pub mod Holds
 pub mod Relays
-pub mod Loads
+pub mod FlowDrivers
 pub mod Closing

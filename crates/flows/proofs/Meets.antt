@@ -25,7 +25,7 @@ use Rattle.forwarding.specs.declared.report.Ended.TheVariants.{Drained, Cut}
 use Rattle.forwarding.specs.declared.report.FlowReport.{FlowReport}
 use Rattle.flows.specs.declared.concluding.DriverDone.{DriverDone}
 use Rattle.flows.specs.declared.concluding.ControllerDone.{ControllerDone}
-use Rattle.flows.specs.Outputs.{Chosen, fitting}
+use Rattle.flows.specs.Outputs.{Chosen, fitting, oversized}
 use Rattle.flows.specs.Counting.{most_exact}
 use Rattle.flows.specs.Driven.{AreExact, AreFull, HasDriven, HasDrained, EndedAs, taken_frames, posted_frames}
 use Rattle.flows.specs.Keys.{DriverKey, ControllerKey, Plan, plan_of}
@@ -93,10 +93,13 @@ module _ (dk : DriverKey) (ck : ControllerKey) (from to : TableId) (d : DriverDo
   few : length (taken_frames d.rx) ≤ most_exact
   few = let a = beginning-few (taken_frames d.rx) stored_frames taken_first in let b = chosen-few stored_frames ck.input.frames from_script in let c = served.few_frames in omega (arith, a, b, c)
 
+  relayed : Chosen (posted_frames d.tx) (map touch (taken_frames d.rx))
+  relayed = chosen-front (posted_frames d.tx) driven.waiting (map touch (taken_frames d.rx)) driven.relayed.chosen
+
   output : Chosen s.wire (map touch ck.input.frames)
   output = subst (λ (w : List Bytes). Chosen w (map touch ck.input.frames)) (sym served.wire)
       (chosen-beginning sent_frames (posted_frames d.tx) (map touch ck.input.frames) sent_first
-      (chosen-through (posted_frames d.tx) (map touch (taken_frames d.rx)) (map touch ck.input.frames) (chosen-front (posted_frames d.tx) driven.waiting (map touch (taken_frames d.rx)) driven.relayed.chosen)
+      (chosen-through (posted_frames d.tx) (map touch (taken_frames d.rx)) (map touch ck.input.frames) relayed
       (chosen-map touch (taken_frames d.rx) ck.input.frames (chosen-beginning (taken_frames d.rx) stored_frames ck.input.frames taken_first from_script))))
 
   exact : AreExact d.rx d.tx d.counts (length driven.waiting)
@@ -110,19 +113,6 @@ module _ (dk : DriverKey) (ck : ControllerKey) (from to : TableId) (d : DriverDo
 
   abbrev pub report : FlowReport
   report = record { offered = s.tally.offered; stored = s.tally.stored; dropped = s.tally.dropped; oversize = s.tally.oversize; taken = d.counts.taken; posted = d.counts.posted; tx_dropped = d.counts.tx_dropped; wire = s.wire; left = left; ended = d.ended }
-
-  ledgers : AreLedgers p.size report
-  ledgers = record {
-    received = meeting.ledger_of d.rx s.rx;
-    sent = transmitted.ledger_of d.tx s.tx;
-    lawful_received = subst (λ (n : ℕ). IsLawfulRxLedger Bytes n (meeting.ledger_of d.rx s.rx)) (ap (λ (t : TableId). t.slots) driven.receives) lawful_rx;
-    lawful_sent = subst (λ (n : ℕ). IsLawfulTxLedger Bytes n (transmitted.ledger_of d.tx s.tx)) (ap (λ (t : TableId). t.slots) driven.sends ∙ driven.one_length) lawful_tx;
-    stored = served.stored ∙ ap (λ (l : List (Segment Bytes)). length (frames piece_of l)) (sym stored_is);
-    taken = exact.taken;
-    posted = exact.posted;
-    wire = served.wire ∙ ap (frames carried) (sym sent_is);
-    left = omega (arith, rx_left, tx_left, left_is);
-  }
 
   module _ (is : d.ended ≡ Drained) where
     has : HasDrained d.rx d.tx driven.waiting
@@ -154,24 +144,51 @@ module _ (dk : DriverKey) (ck : ControllerKey) (from to : TableId) (d : DriverDo
           none_left = omega (arith, rx_left, tx_left, none_rx, none_tx, left_is);
         }
 
-    is-full : p.drops ≡ false → p.retries ≡ true → IsFull p report
-    is-full holds retries =
+    -- with retries, all stored frames are on the wire
+    all-stored : p.retries ≡ true → s.wire ≡ map touch (frames piece_of (meeting.stored_now d.rx s.rx))
+    all-stored retries =
         let none = driven.relayed.retried retries in
         let counted = exact.all in let taken_count = exact.taken in let posted_count = exact.posted in
         let mapped = length-map (taken_frames d.rx) touch in
         let as_many : length (posted_frames d.tx) ≡ length (map touch (taken_frames d.rx)) = omega (arith, none, counted, waits, taken_count, posted_count, mapped) in
+        served.wire ∙ all_sent ∙ chosen-all (posted_frames d.tx) (map touch (taken_frames d.rx)) relayed as_many ∙ ap (map touch) (ap (frames piece_of) (drained has.drained))
+
+    is-full : p.drops ≡ false → p.retries ≡ true → IsFull p report
+    is-full holds retries =
         let whole : take served.next ck.input.frames ≡ ck.input.frames = take_all served.next ck.input.frames (omega (arith, all_offered)) in
         record {
           none_dropped = served.none_dropped holds;
-          all_posted = none;
-          output = served.wire ∙ all_sent ∙ chosen-all (posted_frames d.tx) (map touch (taken_frames d.rx)) (chosen-front (posted_frames d.tx) driven.waiting (map touch (taken_frames d.rx)) driven.relayed.chosen) as_many ∙ ap (map touch) (same_frames ∙ served.full holds)
+          all_posted = driven.relayed.retried retries;
+          output = all-stored retries ∙ ap (map touch) (ap (frames piece_of) stored_is ∙ served.full holds)
               ∙ ap (λ (l : List Bytes). map touch (fitting ck.input.from.slots ck.input.fill l)) whole ∙ ap (λ (t : TableId). map touch (fitting t.slots ck.input.fill ck.input.frames)) (s_from ∙ sym d_from);
         }
+
+  ledgers : AreLedgers p report
+  ledgers = record {
+    received = meeting.ledger_of d.rx s.rx;
+    sent = transmitted.ledger_of d.tx s.tx;
+    lawful_received = subst (λ (n : ℕ). IsLawfulRxLedger Bytes n (meeting.ledger_of d.rx s.rx)) (ap (λ (t : TableId). t.slots) driven.receives) lawful_rx;
+    lawful_sent = subst (λ (n : ℕ). IsLawfulTxLedger Bytes n (transmitted.ledger_of d.tx s.tx)) (ap (λ (t : TableId). t.slots) driven.sends ∙ driven.one_length) lawful_tx;
+    were_offered = subst (λ (l : List (Segment Bytes)). Chosen (frames piece_of l) (take s.tally.offered ck.input.frames)) (sym stored_is)
+        (subst (λ (k : ℕ). Chosen stored_frames (take k ck.input.frames)) (sym served.offered) served.chosen);
+    were_taken = relayed;
+    stored = served.stored ∙ ap (λ (l : List (Segment Bytes)). length (frames piece_of l)) (sym stored_is);
+    taken = exact.taken;
+    posted = exact.posted;
+    wire = served.wire ∙ ap (frames carried) (sym sent_is);
+    left = omega (arith, rx_left, tx_left, left_is);
+    all_stored = all-stored;
+  }
 
   pub concluded : IsReport p report
   concluded = record {
     output = output;
+    few_offered = subst (λ (k : ℕ). k ≤ length ck.input.frames) (sym served.offered) served.few;
     adds = served.adds;
+    oversize = served.oversize ∙ ap (λ (k : ℕ). length (oversized ck.input.from.slots ck.input.fill (take k ck.input.frames))) (sym served.offered)
+        ∙ ap (λ (t : TableId). length (oversized t.slots ck.input.fill (take s.tally.offered ck.input.frames))) (s_from ∙ sym d_from);
+    none_dropped = served.none_dropped;
+    none_tx_dropped = driven.relayed.retried;
     no_more = driven.relayed.no_more;
     ledgers = ledgers;
     drained = is-drained;

@@ -1,27 +1,28 @@
 -- What the calls of a receive controller keep of a flow.
 use Rattle.std.proofs.Common.{◌≡◌, ◌∙◌, ℕ, zero, suc, ◌+◌, ◌<◌, ◌≤◌, ◌≢◌, Bool, true, false, cond, List, [], ◌∷◌, ◌++◌, length, take, get_or, ap, sym, refl, subst, arith, append-nil, length-append, if◌then◌else◌}
-use Rattle.std.specs.Prelude.{nat_lt, Ok, Some, slice_get}
+use Rattle.std.specs.Prelude.{nat_lt, not, Ok, Some, slice_get}
 use Rattle.std.proofs.lemmas.Bool.{lt-ltb, le-ltb, false≢true}
 use Rattle.std.proofs.Math.Arith.{lt_of_le-ne}
 use Rattle.std.proofs.lemmas.List.{length-map}
 use Rattle.std.proofs.lemmas.List.Elements.{filter_more}
+use Rattle.std.proofs.lemmas.List.Filters.{length-filter_more}
 use Rattle.atomic_table.specs.Seated.{TableId}
 use Rattle.ring_model.specs.shared.Frames.{Bytes, frames, piece_count}
 use Rattle.ring_model.specs.shared.Segments.{piece_of}
 use Rattle.ring_model.specs.declared.states.ControllerState.{ControllerState}
 use Rattle.ring_model.specs.shared.Handshakes.{is_serving}
-use Rattle.rx_ring.specs.Ends.{controller_state, is_quiet, stored}
+use Rattle.rx_ring.specs.Ends.{controller_size, controller_state, is_quiet, stored}
 use Rattle.controller.specs.declared.tally.Tally.{Tally}
 use Rattle.controller.specs.declared.offer.Offer.{Offer}
 use Rattle.controller.specs.declared.offer.Offer.TheVariants.{Stored, Dropped, Oversize, Held, Off}
-use Rattle.controller.specs.Receiving.{Receiving, Offered, WasStored, WasDropped, WasOversize, WasHeld, WasOff, frames_by}
+use Rattle.controller.specs.Receiving.{Receiving, needed, Offered, WasStored, WasDropped, WasOversize, WasHeld, WasOff, frames_by}
 use Rattle.controller.specs.Tallying.{exact, most_count}
-use Rattle.flows.specs.Outputs.{Chosen, fitting}
+use Rattle.flows.specs.Outputs.{Chosen, fitting, oversized}
 use Rattle.wire_script.specs.Frame.{Frame}
 use Rattle.flows.specs.Keys.{Input, bytes_at, frames_at}
-use Rattle.flows.specs.declared.service.Service.{Service}
-use Rattle.flows.specs.declared.service.Service.TheVariants.{Waiting, Serving}
-use Rattle.flows.specs.Served.{OfferedSoFar, StandsAs, IsOffering, offering, decides}
+use Rattle.flows.specs.declared.queue_phase.QueuePhase.{QueuePhase}
+use Rattle.flows.specs.declared.queue_phase.QueuePhase.TheVariants.{Waiting, Serving}
+use Rattle.flows.specs.Served.{OfferedSoFar, StandsAs, IsRxSource, rx_source, decides}
 use Rattle.flows.proofs.Choosing.{chosen-both, chosen-of-more}
 
 take-one : {X : Type 0} (xs : List X) (i : ℕ) (d : X) → i < length xs → take (suc i) xs ≡ take i xs ++ get_or xs i d ∷ []
@@ -41,14 +42,32 @@ module _ (i : Input) (old new : Receiving) (f : Bytes) (next : ℕ) (o : Offered
       ∙ (ap (λ (x : Bytes). fitting i.from.slots i.fill (take next i.frames) ++ cond (nat_lt (piece_count i.fill (length x)) i.from.slots) (x ∷ []) []) f_is
       ∙ ap (λ (c : Bool). fitting i.from.slots i.fill (take next i.frames) ++ cond c (f ∷ []) []) e)
 
+  -- whether the frame is oversize, by the controller's settings and by the flow's
+  fits : needed old f < controller_size old.end → nat_lt (piece_count i.fill (length f)) i.from.slots ≡ true
+  fits h = lt-ltb (piece_count i.fill (length f)) i.from.slots
+      (let a = o.fill in let b = ap (λ (t : TableId). t.slots) o.own in subst (λ (k : ℕ). piece_count k (length f) < i.from.slots) a (subst (λ (k : ℕ). piece_count old.bsize (length f) < k) b h))
+
+  exceeds : controller_size old.end ≤ needed old f → nat_lt (piece_count i.fill (length f)) i.from.slots ≡ false
+  exceeds h = le-ltb (piece_count i.fill (length f)) i.from.slots
+      (let a = o.fill in let b = ap (λ (t : TableId). t.slots) o.own in subst (λ (k : ℕ). i.from.slots ≤ piece_count k (length f)) a (subst (λ (k : ℕ). k ≤ piece_count old.bsize (length f)) b h))
+
+  -- and how many are
+  more_oversized : (b : Bool) → nat_lt (piece_count i.fill (length f)) i.from.slots ≡ b → length (oversized i.from.slots i.fill (take (next + 1) i.frames)) ≡ length (oversized i.from.slots i.fill (take next i.frames)) + cond (not b) 1 0
+  more_oversized b e = length-filter_more (λ x. not (nat_lt (piece_count i.fill (length x)) i.from.slots)) i.frames next f here
+      ∙ (ap (λ (x : Bytes). length (oversized i.from.slots i.fill (take next i.frames)) + cond (not (nat_lt (piece_count i.fill (length x)) i.from.slots)) 1 0) f_is
+      ∙ ap (λ (c : Bool). length (oversized i.from.slots i.fill (take next i.frames)) + cond (not c) 1 0) e)
+
+  same_oversize : new.tally.oversize ≡ old.tally.oversize → needed old f < controller_size old.end → new.tally.oversize ≡ length (oversized i.from.slots i.fill (take (next + 1) i.frames))
+  same_oversize same h = let a = o.oversize in let m = more_oversized true (fits h) in omega (arith, same, a, m)
+
   exactly : (t : Tally) → exact old.tally t ≡ t
   exactly t = exact-few old.tally t (let a = o.offered in let b = o.few in let c = o.few_frames in omega (arith, a, b, c))
 
   -- a frame that is decided is one more that was offered
   decided : new.bsize ≡ old.bsize → new.drop_en ≡ old.drop_en → new.tally.offered ≡ old.tally.offered + 1 → Chosen (frames piece_of (stored new.end)) (take next i.frames ++ f ∷ [])
       → new.tally.stored ≡ length (frames piece_of (stored new.end)) → (i.drops ≡ false → frames piece_of (stored new.end) ≡ fitting i.from.slots i.fill (take (next + 1) i.frames))
-      → (i.drops ≡ false → new.tally.dropped ≡ 0) → OfferedSoFar i new (next + 1)
-  decided fill drops offered chosen count full none_dropped = record {
+      → (i.drops ≡ false → new.tally.dropped ≡ 0) → new.tally.oversize ≡ length (oversized i.from.slots i.fill (take (next + 1) i.frames)) → OfferedSoFar i new (next + 1)
+  decided fill drops offered chosen count full none_dropped oversize = record {
     own = own ∙ o.own;
     fill = fill ∙ o.fill;
     drops = drops ∙ o.drops;
@@ -59,6 +78,7 @@ module _ (i : Input) (old new : Receiving) (f : Bytes) (next : ℕ) (o : Offered
     stored = count;
     full = full;
     none_dropped = none_dropped;
+    oversize = oversize;
   }
 
   pub offers-stored : frames piece_of (stored new.end) ≡ frames piece_of (stored old.end) ++ f ∷ [] → WasStored old f new → OfferedSoFar i new (next + 1)
@@ -67,9 +87,9 @@ module _ (i : Input) (old new : Receiving) (f : Bytes) (next : ℕ) (o : Offered
       decided (ap (λ (r : Receiving). r.bsize) w.same) (ap (λ (r : Receiving). r.drop_en) w.same) (ap (λ (t : Tally). t.offered) tally)
       (subst (λ (l : List Bytes). Chosen l (take next i.frames ++ f ∷ [])) (sym ready) (chosen-both (frames piece_of (stored old.end)) (take next i.frames) (f ∷ []) o.chosen))
       (ap (λ (t : Tally). t.stored) tally ∙ (ap (λ (k : ℕ). k + 1) o.stored ∙ sym (ap length ready ∙ length-append (frames piece_of (stored old.end)) (f ∷ []))))
-      (λ holds. ready ∙ (ap (λ (l : List Bytes). l ++ f ∷ []) (o.full holds) ∙ sym (more_fitting true (lt-ltb (piece_count i.fill (length f)) i.from.slots
-      (let h = w.fits in let a = o.fill in let b = ap (λ (t : TableId). t.slots) o.own in subst (λ (k : ℕ). piece_count k (length f) < i.from.slots) a (subst (λ (k : ℕ). piece_count old.bsize (length f) < k) b h))))))
+      (λ holds. ready ∙ (ap (λ (l : List Bytes). l ++ f ∷ []) (o.full holds) ∙ sym (more_fitting true (fits w.fits))))
       (λ holds. ap (λ (t : Tally). t.dropped) tally ∙ o.none_dropped holds)
+      (same_oversize (ap (λ (t : Tally). t.oversize) tally) w.fits)
 
   -- the frames are told by `frames` of `offer`, at each of its answers
   module _ (same : frames piece_of (stored new.end) ≡ frames piece_of (stored old.end) ++ []) where
@@ -86,15 +106,16 @@ module _ (i : Input) (old new : Receiving) (f : Bytes) (next : ℕ) (o : Offered
         let never : (i.drops ≡ false → ⊥) = λ holds. false≢true (sym (o.drops ∙ holds) ∙ w.drops) in
         decided (ap (λ (r : Receiving). r.bsize) same_new) (ap (λ (r : Receiving). r.drop_en) same_new) (ap (λ (t : Tally). t.offered) tally) still
         (ap (λ (t : Tally). t.stored) tally ∙ (o.stored ∙ sym (ap length kept))) (λ holds. absurd (never holds)) (λ holds. absurd (never holds))
+        (same_oversize (ap (λ (t : Tally). t.oversize) tally) w.scarce.fits)
 
     pub offers-oversize : WasOversize old f new → OfferedSoFar i new (next + 1)
     offers-oversize w =
         let tally : new.tally ≡ record old.tally { offered = old.tally.offered + 1; oversize = old.tally.oversize + 1 } = ap (λ (r : Receiving). r.tally) w.same ∙ exactly (record old.tally { offered = old.tally.offered + 1; oversize = old.tally.oversize + 1 }) in
         decided (ap (λ (r : Receiving). r.bsize) w.same) (ap (λ (r : Receiving). r.drop_en) w.same) (ap (λ (t : Tally). t.offered) tally) still
         (ap (λ (t : Tally). t.stored) tally ∙ (o.stored ∙ sym (ap length kept)))
-        (λ holds. kept ∙ (o.full holds ∙ sym (more_fitting false (le-ltb (piece_count i.fill (length f)) i.from.slots
-        (let h = w.many in let a = o.fill in let b = ap (λ (t : TableId). t.slots) o.own in subst (λ (k : ℕ). i.from.slots ≤ piece_count k (length f)) a (subst (λ (k : ℕ). k ≤ piece_count old.bsize (length f)) b h))) ∙ append-nil (fitting i.from.slots i.fill (take next i.frames)))))
+        (λ holds. kept ∙ (o.full holds ∙ sym (more_fitting false (exceeds w.many) ∙ append-nil (fitting i.from.slots i.fill (take next i.frames)))))
         (λ holds. ap (λ (t : Tally). t.dropped) tally ∙ o.none_dropped holds)
+        (let one = ap (λ (t : Tally). t.oversize) tally in let a = o.oversize in let m = more_oversized false (exceeds w.many) in omega (arith, one, a, m))
 
     -- nothing is counted of a frame that is held, or offered to a queue that is off
     uncounted : new.tally ≡ old.tally → new.bsize ≡ old.bsize → new.drop_en ≡ old.drop_en → OfferedSoFar i new next
@@ -109,6 +130,7 @@ module _ (i : Input) (old new : Receiving) (f : Bytes) (next : ℕ) (o : Offered
       stored = ap (λ (t : Tally). t.stored) tally ∙ (o.stored ∙ sym (ap length kept));
       full = λ holds. kept ∙ o.full holds;
       none_dropped = λ holds. ap (λ (t : Tally). t.dropped) tally ∙ o.none_dropped holds;
+      oversize = ap (λ (t : Tally). t.oversize) tally ∙ o.oversize;
     }
 
     pub offers-held : WasHeld old f new → OfferedSoFar i new next
@@ -165,7 +187,7 @@ same-config c new f Off w = (ap (λ (r : Receiving). r.bsize) w.same, ap (λ (r 
 waiting≢serving : Waiting ≡ Serving → ⊥
 waiting≢serving e = cc e
 
-module _ (from : TableId) (fs : List Bytes) (c new : Receiving) (next : ℕ) (s : Service) (f : Bytes) (offer : Offer) (was : IsOffering (offering from fs c next s)) (serves : s ≡ Serving) (here : next < length fs)
+module _ (from : TableId) (fs : List Bytes) (c new : Receiving) (next : ℕ) (s : QueuePhase) (f : Bytes) (offer : Offer) (was : IsRxSource (rx_source from fs c next s)) (serves : s ≡ Serving) (here : next < length fs)
     (f_is : get_or fs next f ≡ f) (own : new.end.table ≡ from) (ready : frames piece_of (stored new.end) ≡ frames piece_of (stored c.end) ++ frames_by (Ok offer) f) (w : Offered c f (Ok offer) new)
     (state : controller_state new.end ≡ controller_state c.end) (quiet : is_quiet new.end ≡ is_quiet c.end) where
   abbrev input : Receiving → Input
@@ -183,7 +205,7 @@ module _ (from : TableId) (fs : List Bytes) (c new : Receiving) (next : ℕ) (s 
   table : new.end.table ≡ c.end.table
   table = own ∙ sym was.so_far.own
 
-  pub decided-on : decides offer ≡ true → IsOffering (offering from fs new (next + 1) s)
+  pub decided-on : decides offer ≡ true → IsRxSource (rx_source from fs new (next + 1) s)
   decided-on is = record {
     so_far = subst (λ (i : Input). OfferedSoFar i new (next + 1)) same_input (offers-on (input c) c new f next offer was.so_far here f_is table ready w is);
     stands = stands;
@@ -191,7 +213,7 @@ module _ (from : TableId) (fs : List Bytes) (c new : Receiving) (next : ℕ) (s 
     finished = λ is. absurd (loud is);
   }
 
-  pub undecided : decides offer ≡ false → IsOffering (offering from fs new next s)
+  pub undecided : decides offer ≡ false → IsRxSource (rx_source from fs new next s)
   undecided is = record {
     so_far = subst (λ (i : Input). OfferedSoFar i new next) same_input (offers-none (input c) c new f next offer was.so_far here f_is table ready w is);
     stands = stands;

@@ -18,7 +18,7 @@ use Rattle.buffer_pool.proofs.chain.Room.TheSendSync as Room
 use Rattle.ring_model.proofs.states.Completion.TheSendSync as Completion
 use Rattle.controller.proofs.tally.Tally.TheSendSync as Tally
 use Rattle.controller.proofs.wire.Wire.TheSendSync as Wire
-use Rattle.flows.proofs.service.Service.TheSendSync as Service
+use Rattle.flows.proofs.queue_phase.QueuePhase.TheSendSync as QueuePhase
 use Rattle.flows.proofs.counts.Counts.TheSendSync as Counts
 use Rattle.flows.proofs.phase.Phase.TheSendSync as Phase
 use Rattle.shared_ring.proofs.ends.ControllerPlaces.TheSendSync as ControllerPlaces
@@ -27,10 +27,10 @@ use Rattle.wire_script.proofs.frame.WireFrame.TheSendSync as WireFrame
 use Rattle.rx_ring.specs.contracts.ring.RxRing as RxRing
 use Rattle.tx_ring.specs.contracts.ring.TxRing as TxRing
 use Rattle.pool.specs.contracts.pool.Pool as Pool
-use Rattle.flows.specs.contracts.offering.Offering as Offering
-use Rattle.flows.specs.contracts.wiring.Wiring as Wiring
-use Rattle.flows.specs.contracts.load.Load as Load
-use Rattle.flows.specs.contracts.load.Task as Task
+use Rattle.flows.specs.contracts.rx_source.RxSource as RxSource
+use Rattle.flows.specs.contracts.tx_sink.TxSink as TxSink
+use Rattle.flows.specs.contracts.flow_drivers.FlowDrivers as FlowDrivers
+use Rattle.flows.specs.contracts.flow_drivers.FlowSpec as FlowSpec
 use Rattle.flows.specs.contracts.driver_flow.DriverFlow as DriverFlow
 use Rattle.flows.specs.contracts.controller_flow.ControllerFlow as ControllerFlow
 
@@ -46,20 +46,20 @@ tx_ring = search tables depth 60 fits 20000
 the_pool : IsSync Pool.the_row
 the_pool = search (tables, Slotted.the_field_sync) depth 60 fits 20000
 
-offering : (l : _) → IsSend (Offering.the_row l)
-offering l = search (tables, rx_ring, Seat.the_send, Completion.the_field_send, Tally.the_field_send, Service.the_field_send, ControllerPlaces.the_field_send, WireFrame.the_sync) depth 60 fits 20000
+rx_source : (l : _) → IsSend (RxSource.the_row l)
+rx_source l = search (tables, rx_ring, Seat.the_send, Completion.the_field_send, Tally.the_field_send, QueuePhase.the_field_send, ControllerPlaces.the_field_send, WireFrame.the_sync) depth 60 fits 20000
 
-wiring : (l : _) → IsSend (Wiring.the_row l)
-wiring l = search (tables, tx_ring, Seat.the_send, Completion.the_field_send, Wire.the_send, Service.the_field_send, ControllerPlaces.the_field_send) depth 60 fits 20000
+tx_sink : (l : _) → IsSend (TxSink.the_row l)
+tx_sink l = search (tables, tx_ring, Seat.the_send, Completion.the_field_send, Wire.the_send, QueuePhase.the_field_send, ControllerPlaces.the_field_send) depth 60 fits 20000
 
-load : IsSend (Load.the_field).row
-load = search (tables, Seat.the_send, Completion.the_field_send, DriverPlaces.the_field_send) depth 60 fits 20000
+flow_drivers : IsSend (FlowDrivers.the_field).row
+flow_drivers = search (tables, Seat.the_send, Completion.the_field_send, DriverPlaces.the_field_send) depth 60 fits 20000
 
-task : (l : _) → IsSend (Task.the_row l)
-task l = search (sendable, rx_ring, tx_ring, the_pool) depth 60 fits 20000
+flow_spec : (l : _) → IsSend (FlowSpec.the_row l)
+flow_spec l = search (sendable, rx_ring, tx_ring, the_pool) depth 60 fits 20000
 
 pub controller_flow : (l : _) → IsSend (ControllerFlow.the_row l)
-controller_flow l = search (sendable, offering, wiring) depth 60 fits 20000
+controller_flow l = search (sendable, rx_source, tx_sink) depth 60 fits 20000
 
 pub driver_flow : (l : _) → IsSend (DriverFlow.the_row l)
-driver_flow l = search (sendable, task, load, Counts.the_field_send, Phase.the_field_send) depth 60 fits 20000
+driver_flow l = search (sendable, flow_spec, flow_drivers, Counts.the_field_send, Phase.the_field_send) depth 60 fits 20000

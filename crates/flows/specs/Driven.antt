@@ -19,10 +19,10 @@ use Rattle.forwarding.specs.Touching.{touch}
 use Rattle.flows.specs.Outputs.{Chosen}
 use Rattle.flows.specs.Keys.{DriverKey}
 use Rattle.flows.specs.Counting.{most_exact}
-use Rattle.lending.specs.Lent.{with_receiver, with_transmitter}
+use Rattle.buffer_accounting.specs.Lent.{with_receiver, with_transmitter}
 use Rattle.flows.specs.Holding.{HoldsJust, all_of}
 use Rattle.flows.specs.declared.counts.Counts.{Counts}
-use Rattle.flows.specs.declared.load.Load.{Load}
+use Rattle.flows.specs.declared.flow_drivers.FlowDrivers.{FlowDrivers}
 use Rattle.flows.specs.declared.phase.Phase.{Phase}
 use Rattle.flows.specs.declared.phase.Phase.TheVariants.{EnablingTx, EnablingRx, Forwarding, Disabling, Reclaiming, Over}
 use Rattle.forwarding.specs.declared.report.Ended.{Ended}
@@ -120,7 +120,7 @@ pub record HasEnded (k : DriverKey) (d : Driving) (c : Counts) (ended : Ended) :
 
 -- Both drivers are those of the flow's rings. The pass has its share, and holds exactly the buffers that are with the
 -- drivers, in the stash and in the waiting packets.
-pub record IsLoaded (k : DriverKey) (pass : Passed) (d : Driving) : Type 0 where
+pub record IsEquipped (k : DriverKey) (pass : Passed) (d : Driving) : Type 0 where
   pub receives : d.rx.end.table ≡ k.from
   pub sends : d.tx.end.table ≡ k.to
   pub one_length : k.to.slots ≡ k.from.slots
@@ -129,7 +129,7 @@ pub record IsLoaded (k : DriverKey) (pass : Passed) (d : Driving) : Type 0 where
   pub holds : HoldsJust pass.hand.held (all_of d)
   pub waiting : All (IsTaken k.from.slots) d.packets
 
-abbrev pub driving_of : Load → Driving
+abbrev pub driving_of : FlowDrivers → Driving
 driving_of l = driving l.rx l.tx l.stash l.packets.items
 
 -- What is known in each phase. Enabling the receive queue is asked only after the transmit queue was seen enabled.
@@ -173,7 +173,7 @@ abbrev pub is_over : Phase → Bool
 is_over (Over left) = true
 is_over _ = false
 
--- The driver's side: its key, its pass and load, its counts, and its phase.
+-- The driver's side: its key, its pass, its drivers and their buffers, its counts, and its phase.
 pub record Relaying : Type 0 where
   pub key : DriverKey
   pub pass : Passed
@@ -181,10 +181,10 @@ pub record Relaying : Type 0 where
   pub counts : Counts
   pub phase : Phase
 
-abbrev pub relaying : DriverKey → Load → Counts → Phase → Relaying
+abbrev pub relaying : DriverKey → FlowDrivers → Counts → Phase → Relaying
 relaying k l c phase = record { key = k; pass = l.pass; driving = driving_of l; counts = c; phase = phase }
 
 pub record IsRelaying (r : Relaying) : Type 0 where
-  pub loaded : IsLoaded r.key r.pass r.driving
+  pub equipped : IsEquipped r.key r.pass r.driving
   pub at : IsAt r.key r.driving r.counts r.phase
   pub given_back : is_over r.phase ≡ true → r.pass.hand.held ≡ []

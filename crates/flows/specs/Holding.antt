@@ -2,7 +2,7 @@
 -- for every weighing of the numbers, both sides weigh the same.
 use Rattle.std.specs.Prelude.{◌≡◌, ℕ, ◌+◌, ◌≤◌, List}
 use Rattle.pool.specs.Hands.{total}
-use Rattle.lending.specs.Lent.{lent, SameNumbers}
+use Rattle.buffer_accounting.specs.Lent.{lent, SameNumbers}
 use Rattle.forwarding.specs.Driving.{Driving}
 
 -- All that a flow holds: in the stash, in the waiting packets, and with both drivers.

@@ -1,5 +1,5 @@
 -- The outputs that a flow may have.
-use Rattle.std.specs.Prelude.{◌≡◌, ℕ, ◌⊎◌, nat_lt, List, [], ◌∷◌, length, map}
+use Rattle.std.specs.Prelude.{◌≡◌, ℕ, ◌⊎◌, nat_lt, not, List, [], ◌∷◌, length, map}
 use Rattle.std.specs.List.{filter}
 use Rattle.ring_model.specs.shared.Frames.{Bytes, piece_count}
 use Rattle.forwarding.specs.Touching.{touch}
@@ -13,6 +13,10 @@ Chosen (x ∷ xs) (y ∷ ys) = ((x ≡ y) × Chosen xs ys) ⊎ Chosen (x ∷ xs)
 -- The frames that are not oversize: in buffers filled to `b` bytes, they need fewer than `n` descriptors.
 abbrev pub fitting : ℕ → ℕ → List Bytes → List Bytes
 fitting n b frames = filter (λ f. nat_lt (piece_count b (length f)) n) frames
+
+-- The oversize frames.
+abbrev pub oversized : ℕ → ℕ → List Bytes → List Bytes
+oversized n b frames = filter (λ f. not (nat_lt (piece_count b (length f)) n)) frames
 
 -- The output frames are touched input frames (byte 1 is increased by 1, modulo 256), in order, with some left out.
 abbrev pub IsLawfulOutput : List Bytes → List Bytes → Type 0

@@ -1,5 +1,5 @@
 -- The meaning of a flow's report.
-use Rattle.std.specs.Prelude.{◌≡◌, ℕ, ◌+◌, ◌≤◌, true, false, length}
+use Rattle.std.specs.Prelude.{◌≡◌, ℕ, ◌+◌, ◌≤◌, true, false, length, map, take}
 use Rattle.ring_model.specs.receive.Lawful.{IsLawfulRxLedger}
 use Rattle.ring_model.specs.receive.Ring.{RxLedger}
 use Rattle.ring_model.specs.shared.Frames.{Bytes, frames}
@@ -8,21 +8,27 @@ use Rattle.ring_model.specs.transmit.Lawful.{IsLawfulTxLedger}
 use Rattle.ring_model.specs.transmit.Ring.{TxLedger, carried}
 use Rattle.forwarding.specs.declared.report.Ended.TheVariants.{Drained}
 use Rattle.forwarding.specs.declared.report.FlowReport.{FlowReport}
-use Rattle.flows.specs.Outputs.{IsLawfulOutput, IsFullOutput}
+use Rattle.forwarding.specs.Touching.{touch}
+use Rattle.flows.specs.Outputs.{Chosen, IsLawfulOutput, IsFullOutput, oversized}
 use Rattle.flows.specs.Keys.{Plan}
 
--- There are lawful ledgers of the flow's two queues. The counts are those of their frames, the wire has the sent
--- frames, and `left` is the number of segments left in both together.
-pub record AreLedgers (n : ℕ) (r : FlowReport) : Type 0 where
+-- There are lawful ledgers of the flow's two queues. The stored frames are among the first `offered` frames of the
+-- flow, and the posted ones are touched copies of taken ones, both in order. The counts are those of their frames, the
+-- wire has the sent frames, and `left` is the number of segments left in both together. If nothing was dropped for lack
+-- of room on the transmit ring, the wire of a drained flow has every stored frame.
+pub record AreLedgers (p : Plan) (r : FlowReport) : Type 0 where
   pub received : RxLedger Bytes
   pub sent : TxLedger Bytes
-  pub lawful_received : IsLawfulRxLedger Bytes n received
-  pub lawful_sent : IsLawfulTxLedger Bytes n sent
+  pub lawful_received : IsLawfulRxLedger Bytes p.size received
+  pub lawful_sent : IsLawfulTxLedger Bytes p.size sent
+  pub were_offered : Chosen (frames piece_of received.completed) (take r.offered p.frames)
+  pub were_taken : Chosen (frames carried sent.posted) (map touch (frames piece_of received.reaped))
   pub stored : r.stored ≡ length (frames piece_of received.completed)
   pub taken : r.taken ≡ length (frames piece_of received.reaped)
   pub posted : r.posted ≡ length (frames carried sent.posted)
   pub wire : r.wire ≡ frames carried sent.completed
   pub left : length received.reaped + length sent.completed + r.left ≡ length received.completed + length sent.posted
+  pub all_stored : r.ended ≡ Drained → p.retries ≡ true → r.wire ≡ map touch (frames piece_of received.completed)
 
 -- Each frame of the flow was offered, each stored frame was taken and then posted or dropped, and each posted frame is
 -- on the wire.
@@ -39,11 +45,17 @@ pub record IsFull (p : Plan) (r : FlowReport) : Type 0 where
   pub all_posted : r.tx_dropped ≡ 0
   pub output : IsFullOutput p.size p.fill p.frames r.wire
 
+-- Exactly the first `offered` frames of the flow were offered, and those of them that can never fit are oversize. None
+-- is dropped for lack of room unless the settings allow it.
 pub record IsReport (p : Plan) (r : FlowReport) : Type 0 where
   pub output : IsLawfulOutput p.frames r.wire
+  pub few_offered : r.offered ≤ length p.frames
   pub adds : r.offered ≡ r.stored + r.dropped + r.oversize
+  pub oversize : r.oversize ≡ length (oversized p.size p.fill (take r.offered p.frames))
+  pub none_dropped : p.drops ≡ false → r.dropped ≡ 0
+  pub none_tx_dropped : p.retries ≡ true → r.tx_dropped ≡ 0
   pub no_more : r.posted + r.tx_dropped ≤ r.taken
-  pub ledgers : AreLedgers p.size r
+  pub ledgers : AreLedgers p r
   pub drained : r.ended ≡ Drained → IsDrained p r
   pub never_cut : p.turns ≡ 0 → r.ended ≡ Drained
   pub full : r.ended ≡ Drained → p.drops ≡ false → p.retries ≡ true → IsFull p r

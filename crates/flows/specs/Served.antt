@@ -13,14 +13,14 @@ use Rattle.controller.specs.declared.offer.Offer.TheVariants.{Off, Oversize, Sto
 use Rattle.controller.specs.Receiving.{Receiving}
 use Rattle.controller.specs.declared.tally.Tally.{Tally}
 use Rattle.controller.specs.Tallying.{AddsUp}
-use Rattle.flows.specs.Outputs.{Chosen, fitting}
+use Rattle.flows.specs.Outputs.{Chosen, fitting, oversized}
 use Rattle.flows.specs.Keys.{Input, ControllerKey}
-use Rattle.flows.specs.declared.service.Service.{Service}
-use Rattle.flows.specs.declared.service.Service.TheVariants.{Waiting, Serving, Ended}
+use Rattle.flows.specs.declared.queue_phase.QueuePhase.{QueuePhase}
+use Rattle.flows.specs.declared.queue_phase.QueuePhase.TheVariants.{Waiting, Serving, Ended}
 use Rattle.flows.specs.declared.concluding.ControllerDone.{ControllerDone}
 
 -- The first `next` frames were decided, and no others. The stored frames are among them, in order, and the tally
--- matches. If frames are not dropped, exactly the oversize ones are left out.
+-- matches and counts the oversize ones. If frames are not dropped, exactly those are left out.
 pub record OfferedSoFar (i : Input) (r : Receiving) (next : ℕ) : Type 0 where
   pub own : r.end.table ≡ i.from
   pub fill : r.bsize ≡ i.fill
@@ -32,6 +32,7 @@ pub record OfferedSoFar (i : Input) (r : Receiving) (next : ℕ) : Type 0 where
   pub stored : r.tally.stored ≡ length (frames piece_of (receive.stored r.end))
   pub full : i.drops ≡ false → frames piece_of (receive.stored r.end) ≡ fitting i.from.slots i.fill (take next i.frames)
   pub none_dropped : i.drops ≡ false → r.tally.dropped ≡ 0
+  pub oversize : r.tally.oversize ≡ length (oversized i.from.slots i.fill (take next i.frames))
 
 -- The offer decides on the frame, so it is not offered again.
 abbrev pub decides : Offer → Bool
@@ -41,14 +42,14 @@ decides Oversize = true
 decides Held = false
 decides Off = false
 
--- Whether the end serves its queue now, for each state of the service.
-abbrev pub StandsAs : Service → Bool → Type 0
+-- Whether the end serves its queue now, in each phase of the queue.
+abbrev pub StandsAs : QueuePhase → Bool → Type 0
 StandsAs Waiting serving = serving ≡ false
 StandsAs Serving serving = serving ≡ true
 StandsAs Ended serving = serving ≡ false
 
--- The next state of the service, given whether the end serves its queue now.
-abbrev pub after : Service → Bool → Service
+-- The next phase of the queue, given whether the end serves its queue now.
+abbrev pub after : QueuePhase → Bool → QueuePhase
 after Waiting true = Serving
 after Waiting false = Waiting
 after Serving true = Serving
@@ -56,43 +57,43 @@ after Serving false = Ended
 after Ended serving = Ended
 
 -- The receive queue of a flow, as its controller serves it.
-pub record Offering : Type 0 where
+pub record RxSource : Type 0 where
   pub input : Input
   pub controller : Receiving
   pub next : ℕ
-  pub service : Service
+  pub queue_phase : QueuePhase
 
-abbrev pub offering : TableId → List Bytes → Receiving → ℕ → Service → Offering
-offering from frames_in controller next service = record { input = record { from = from; frames = frames_in; fill = controller.bsize; drops = controller.drop_en }; controller = controller; next = next; service = service }
+abbrev pub rx_source : TableId → List Bytes → Receiving → ℕ → QueuePhase → RxSource
+rx_source from frames_in controller next queue_phase = record { input = record { from = from; frames = frames_in; fill = controller.bsize; drops = controller.drop_en }; controller = controller; next = next; queue_phase = queue_phase }
 
 -- Nothing was done yet.
-pub record IsUnserved (o : Offering) : Type 0 where
+pub record IsUnserved (o : RxSource) : Type 0 where
   pub next : o.next ≡ 0
   pub stored : receive.stored o.controller.end ≡ []
   pub loud : receive.is_quiet o.controller.end ≡ false
 
 -- Quiet was said only after all frames were decided.
-pub record IsOffering (o : Offering) : Type 0 where
+pub record IsRxSource (o : RxSource) : Type 0 where
   pub so_far : OfferedSoFar o.input o.controller o.next
-  pub stands : StandsAs o.service (is_serving (receive.controller_state o.controller.end))
-  pub unserved : o.service ≡ Waiting → IsUnserved o
+  pub stands : StandsAs o.queue_phase (is_serving (receive.controller_state o.controller.end))
+  pub unserved : o.queue_phase ≡ Waiting → IsUnserved o
   pub finished : receive.is_quiet o.controller.end ≡ true → o.next ≡ length o.input.frames
 
 -- The transmit queue of a flow, as its controller serves it.
-pub record Wiring : Type 0 where
+pub record TxSink : Type 0 where
   pub to : TableId
   pub controller : transmit.ControllerSide
   pub wire : List Bytes
-  pub service : Service
+  pub queue_phase : QueuePhase
 
-abbrev pub wiring : TableId → transmit.ControllerSide → List Bytes → Service → Wiring
-wiring to controller wire service = record { to = to; controller = controller; wire = wire; service = service }
+abbrev pub tx_sink : TableId → transmit.ControllerSide → List Bytes → QueuePhase → TxSink
+tx_sink to controller wire queue_phase = record { to = to; controller = controller; wire = wire; queue_phase = queue_phase }
 
 -- The wire has the sent frames.
-pub record IsWiring (w : Wiring) : Type 0 where
+pub record IsTxSink (w : TxSink) : Type 0 where
   pub own : w.controller.table ≡ w.to
-  pub stands : StandsAs w.service (is_serving (transmit.controller_state w.controller))
-  pub unserved : w.service ≡ Waiting → transmit.sent w.controller ≡ []
+  pub stands : StandsAs w.queue_phase (is_serving (transmit.controller_state w.controller))
+  pub unserved : w.queue_phase ≡ Waiting → transmit.sent w.controller ≡ []
   pub wire : w.wire ≡ frames carried (transmit.sent w.controller)
 
 -- What is known of the input whenever the controller's end is returned.
@@ -107,6 +108,7 @@ pub record HasOffered (i : Input) (end : receive.ControllerSide) (tally : Tally)
   pub stored : tally.stored ≡ length (frames piece_of (receive.stored end))
   pub full : i.drops ≡ false → frames piece_of (receive.stored end) ≡ fitting i.from.slots i.fill (take next i.frames)
   pub none_dropped : i.drops ≡ false → tally.dropped ≡ 0
+  pub oversize : tally.oversize ≡ length (oversized i.from.slots i.fill (take next i.frames))
   pub finished : receive.is_quiet end ≡ true → next ≡ length i.frames
 
 -- Both halves together.

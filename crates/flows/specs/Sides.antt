@@ -2,17 +2,17 @@
 use Rattle.std.specs.Prelude.{Bool, true, false, ◌&&◌}
 use Rattle.controller.specs.declared.tally.Tally.{Tally}
 use Rattle.flows.specs.Keys.{ControllerKey}
-use Rattle.flows.specs.declared.service.Service.{Service}
-use Rattle.flows.specs.declared.service.Service.TheVariants.{Waiting, Serving, Ended}
+use Rattle.flows.specs.declared.queue_phase.QueuePhase.{QueuePhase}
+use Rattle.flows.specs.declared.queue_phase.QueuePhase.TheVariants.{Waiting, Serving, Ended}
 
--- The controller's side: its key, the tally of its frames, and the state of its service of each queue.
+-- The controller's side: its key, the tally of its frames, and the phase of each queue.
 pub record Controlling : Type 0 where
   pub key : ControllerKey
   pub tally : Tally
-  pub receiving : Service
-  pub sending : Service
+  pub receiving : QueuePhase
+  pub sending : QueuePhase
 
-abbrev pub has_ended : Service → Bool
+abbrev pub has_ended : QueuePhase → Bool
 has_ended Waiting = false
 has_ended Serving = false
 has_ended Ended = true

@@ -11,9 +11,9 @@ ghost use Rattle.flows.specs.Served.{HasServed};
 ghost use Rattle.flows.specs.Sides.{has_served};
 
 use crate::concluding::ControllerDone;
-use crate::offering::Offering;
-use crate::service::Service;
-use crate::wiring::Wiring;
+use crate::queue_phase::QueuePhase;
+use crate::rx_source::RxSource;
+use crate::tx_sink::TxSink;
 use controller::Tally;
 use forwarding::{Flow, ForwardError, Gate, Progress};
 use rx_ring::{RxControllerEnd, RxRing};
@@ -31,8 +31,8 @@ use wire_script::WireFrame;
 #[derive(Drop)]
 pub struct ControllerFlow<'a> {
     number: usize,
-    input: Offering<'a>,
-    output: Wiring<'a>,
+    input: RxSource<'a>,
+    output: TxSink<'a>,
 }
 
 impl<'a> Model for ControllerFlow<'a> {
@@ -40,7 +40,7 @@ impl<'a> Model for ControllerFlow<'a> {
 
     ghost Value = { Controlling };
 
-    ghost view = { λ f. record { key = record { number = f.number; input = f.input.input; to = f.output.to }; tally = f.input.controller.tally; receiving = f.input.service; sending = f.output.service } };
+    ghost view = { λ f. record { key = record { number = f.number; input = f.input.input; to = f.output.to }; tally = f.input.controller.tally; receiving = f.input.queue_phase; sending = f.output.queue_phase } };
 }
 
 impl<'a> ControllerFlow<'a> {
@@ -67,8 +67,8 @@ impl<'a> ControllerFlow<'a> {
     {
         ControllerFlow {
             number,
-            input: Offering::new(rings.0, ends.0, frames.0, frames.1, bsize, drop_en),
-            output: Wiring::new(alloc, rings.1, ends.1),
+            input: RxSource::new(rings.0, ends.0, frames.0, frames.1, bsize, drop_en),
+            output: TxSink::new(alloc, rings.1, ends.1),
         }
     }
 
@@ -85,7 +85,8 @@ impl<'a> ControllerFlow<'a> {
     pub fn has_served(&self) -> bool
         ensures { result ≡ has_served self.now }
     {
-        self.input.service() == Service::Ended && self.output.service() == Service::Ended
+        self.input.queue_phase() == QueuePhase::Ended
+            && self.output.queue_phase() == QueuePhase::Ended
     }
 
     /// Returns both ends, which hold no buffer, the tally and the wire, at any time.
@@ -119,8 +120,8 @@ impl<'a> Flow for ControllerFlow<'a> {
     ghost numbers = { λ f. offered f.tally };
 
     fn turn<R: Wait, G: Gate>(&mut self, _rt: &R, gate: &G) -> Result<Progress, ForwardError> {
-        let asked = self.input.shake();
-        let told = self.output.shake();
+        let asked = self.input.control_step();
+        let told = self.output.control_step();
         let decided = self.input.offer(self.number, gate)?;
         let sent = self.output.send(self.number, gate)?;
         Ok(if self.has_served() {

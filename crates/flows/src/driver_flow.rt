@@ -13,8 +13,8 @@ ghost use Rattle.flows.specs.Parts.{parts_of};
 
 use crate::concluding::DriverDone;
 use crate::counts::Counts;
-use crate::load::{Load, Task};
-use crate::phase::{Left, Phase};
+use crate::flow_drivers::{FlowDrivers, FlowSpec};
+use crate::phase::{Phase, Undelivered};
 use crate::starting::stock_up;
 use arrayvec::ArrayVec;
 use buffer_pool::{Packet, Stash};
@@ -47,8 +47,8 @@ pub struct DriverParts {
 /// by turn until the flow is drained or cut; then disables both queues and returns all buffers to the pool.
 #[derive(Drop)]
 pub struct DriverFlow<'a> {
-    task: Task<'a>,
-    load: Load,
+    flow_spec: FlowSpec<'a>,
+    flow_drivers: FlowDrivers,
     counts: Counts,
     phase: Phase,
 }
@@ -58,35 +58,35 @@ impl<'a> Model for DriverFlow<'a> {
 
     ghost Value = { Relaying };
 
-    ghost view = { λ f. record { key = f.task; pass = f.load.pass; driving = driving_of f.load; counts = f.counts; phase = f.phase } };
+    ghost view = { λ f. record { key = f.flow_spec; pass = f.flow_drivers.pass; driving = driving_of f.flow_drivers; counts = f.counts; phase = f.phase } };
 
-    ghost invariant = { λ f. IsRelaying (record { key = f.task; pass = f.load.pass; driving = driving_of f.load; counts = f.counts; phase = f.phase }) };
+    ghost invariant = { λ f. IsRelaying (record { key = f.flow_spec; pass = f.flow_drivers.pass; driving = driving_of f.flow_drivers; counts = f.counts; phase = f.phase }) };
 }
 
 impl<'a> DriverFlow<'a> {
     /// Starts a flow: takes up to `most` buffers from the pool, posts as many as fit into the receive ring, and
-    /// publishes them. The ends have made no step yet, their rings have the same length, and the pass has the task's
+    /// publishes them. The ends have made no step yet, their rings have the same length, and the pass has the spec's
     /// share and holds nothing. A batch has up to `batch` packets; each `rs_every`th frame and the last of each batch
     /// ask for a report.
     pub fn start<R: Wait>(
         rt: &R,
-        task: Task<'a>,
+        flow_spec: FlowSpec<'a>,
         ends: (RxDriverEnd, TxDriverEnd),
         mut pass: PoolPass,
         most: usize,
         batch: usize,
         rs_every: u16,
     ) -> DriverFlow<'a>
-        requires from { ends.0.table ≡ task.from }
-        requires to { ends.1.table ≡ task.to }
-        requires one_length { task.to.slots ≡ task.from.slots }
+        requires from { ends.0.table ≡ flow_spec.from }
+        requires to { ends.1.table ≡ flow_spec.to }
+        requires one_length { flow_spec.to.slots ≡ flow_spec.from.slots }
         requires fresh { IsFreshDriver ends.0 × IsFreshDriver ends.1 }
-        requires pool { IsOf task.pool pass }
-        requires share { pass.hand.share ≡ task.share }
+        requires pool { IsOf flow_spec.pool pass }
+        requires share { pass.hand.share ≡ flow_spec.share }
         requires none { pass.hand.held ≡ [] }
         requires batch { (0 < batch) × (batch ≤ MOST_BATCH) }
         requires rs_every { (0 < rs_every) × (rs_every ≤ MOST_RS_EVERY) }
-        ensures key { result.key ≡ task.entry }
+        ensures key { result.key ≡ flow_spec.entry }
         ensures counts { result.counts ≡ none }
         ensures phase { result.phase ≡ EnablingTx }
         ensures published { published result.driving.rx.end ≡ length (posted result.driving.rx.end) }
@@ -94,11 +94,17 @@ impl<'a> DriverFlow<'a> {
         let (mut end, tx) = ends;
         let mut stash = Stash::new();
         let short = stock_up(
-            rt, task.pool, &mut pass, task.from, &mut end, &mut stash, most,
+            rt,
+            flow_spec.pool,
+            &mut pass,
+            flow_spec.from,
+            &mut end,
+            &mut stash,
+            most,
         );
         DriverFlow {
-            task,
-            load: Load {
+            flow_spec,
+            flow_drivers: FlowDrivers {
                 rx: RxDriver::new(end, batch),
                 tx: TxDriver::new(tx, rs_every),
                 stash,
@@ -127,14 +133,14 @@ impl<'a> DriverFlow<'a> {
         ensures share { result.pass.hand.share ≡ self.entry.key.share }
         ensures held { HoldsJust result.pass.hand.held (parts_of result) }
     {
-        let Load {
+        let FlowDrivers {
             rx,
             tx,
             stash,
             packets,
             pass,
             ..
-        } = self.load;
+        } = self.flow_drivers;
         let (rx, chain) = rx.into_end();
         DriverParts {
             rx,
@@ -156,13 +162,13 @@ impl<'a> DriverFlow<'a> {
         ensures none { IfSome result (λ d. d.1.hand.held ≡ []) }
     {
         let DriverFlow {
-            load,
+            flow_drivers,
             counts,
             phase,
             ..
         } = self;
         let Phase::Over(
-            Left {
+            Undelivered {
                 ended,
                 untaken,
                 unsent,
@@ -171,7 +177,7 @@ impl<'a> DriverFlow<'a> {
         else {
             return None;
         };
-        let Load { rx, tx, pass, .. } = load;
+        let FlowDrivers { rx, tx, pass, .. } = flow_drivers;
         let (rx, _) = rx.into_end();
         let done = DriverDone {
             rx,
@@ -200,7 +206,9 @@ impl<'a> Flow for DriverFlow<'a> {
 
     fn turn<R: Wait, G: Gate>(&mut self, rt: &R, gate: &G) -> Result<Progress, ForwardError> {
         let (was, counts) = (self.phase, self.counts);
-        self.phase = self.load.step(rt, gate, &self.task, &mut self.counts, was)?;
+        self.phase = self
+            .flow_drivers
+            .step(rt, gate, &self.flow_spec, &mut self.counts, was)?;
         Ok(if self.phase.is_over() {
             Progress::Over
         } else if self.counts != counts || !self.phase.is_as(was) {

@@ -1,7 +1,8 @@
 //! A flow: the frames that one queue receives and another sends, as served by a driver's and a controller's side.
-//! Depends on `forwarding`, `teams`, `controller`, `driver`, `pool`, `buffer_pool`, `wire_script`, the ring crates and
-//! `arrayvec`.
-//! The frames on a flow's wire are touched frames of its script, in order, and its counts match its rings' records.
+//! Depends on `forwarding`, `buffer_accounting`, `teams`, `controller`, `driver`, `pool`, `buffer_pool`, `wire_script`,
+//! the ring crates and `arrayvec`.
+//! Guarantees that the frames on a flow's wire are touched frames of its script, in order, and that its counts match
+//! its rings' records.
 //!
 //! [`DriverFlow`] and [`ControllerFlow`] are the two sides; a worker gives each its turns. Once both are over,
 //! [`conclude`] lets their rings' ends meet and returns the flow's [`FlowReport`].
@@ -15,22 +16,22 @@ mod controller_flow;
 mod counts;
 mod disabling;
 mod driver_flow;
+mod flow_drivers;
 mod holding;
-mod load;
-mod offering;
 mod phase;
-mod service;
+mod queue_phase;
+mod rx_source;
 mod serving;
 mod starting;
 mod stepping;
-mod wiring;
+mod tx_sink;
 
 pub use concluding::{ControllerDone, DriverDone, conclude};
 pub use controller_flow::ControllerFlow;
 pub use counts::Counts;
 pub use driver_flow::{DriverFlow, DriverParts};
+pub use flow_drivers::FlowSpec;
 pub use forwarding::{Ended, FlowReport};
-pub use load::Task;
-pub use phase::{Left, Phase};
-pub use service::Service;
+pub use phase::{Phase, Undelivered};
+pub use queue_phase::QueuePhase;
 pub use serving::{Served, serve_flows};

@@ -6,7 +6,7 @@ use forwarding::Ended;
 
 /// How a flow ended, and how many segments were left in its queues when their disablings were answered.
 #[derive(Clone, Copy, Debug, PartialEq, Eq)]
-pub struct Left {
+pub struct Undelivered {
     /// How the flow ended.
     pub ended: Ended,
     /// Segments stored and not taken.
@@ -27,9 +27,9 @@ pub enum Phase {
     /// Both disablings are asked. For each queue that has answered: how many segments are left in it.
     Disabling(Ended, Option<u32>, Option<u32>),
     /// Both were seen disabled, and the buffers come back.
-    Reclaiming(Left),
+    Reclaiming(Undelivered),
     /// All buffers are back in the pool.
-    Over(Left),
+    Over(Undelivered),
 }
 
 impl Phase {

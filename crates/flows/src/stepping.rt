@@ -4,65 +4,65 @@ ghost use Rattle.teams.specs.Gates.{Met};
 ghost use Rattle.teams.specs.Numbers.{NoneFalls};
 ghost use Rattle.flows.specs.Counting.{driven};
 ghost use Rattle.flows.specs.declared.phase.Phase.TheVariants as phase;
-ghost use Rattle.flows.specs.Driven.{GoesTo, IsLoaded, IsRelaying, driving_of, relaying};
+ghost use Rattle.flows.specs.Driven.{GoesTo, IsEquipped, IsRelaying, driving_of, relaying};
 
 use crate::counts::Counts;
 use crate::disabling::{finish_rx, finish_tx};
+use crate::flow_drivers::{FlowDrivers, FlowSpec};
 use crate::holding::give_stash;
-use crate::load::{Load, Task};
-use crate::phase::{Left, Phase};
+use crate::phase::{Phase, Undelivered};
 use driver::{MOST_BATCH, QueueDriver};
 use forwarding::{Ended, ForwardError, Gate};
 use std::sync::Wait;
 
-impl Load {
+impl FlowDrivers {
     /// Makes one turn in this phase and returns the next phase. The phase stays the same if the gate refuses.
     pub(crate) fn step<R: Wait, G: Gate>(
         &mut self,
         rt: &R,
         gate: &G,
-        task: &Task<'_>,
+        flow_spec: &FlowSpec<'_>,
         counts: &mut Counts,
         at: Phase,
     ) -> Result<Phase, ForwardError>
-        requires { IsRelaying (relaying task.now self.old counts.old at) }
-        ensures went { IfOk result (λ next. IsRelaying (relaying task.now self.new counts.new next)) }
-        ensures stayed { OnErr result (IsRelaying (relaying task.now self.new counts.new at)) }
+        requires { IsRelaying (relaying flow_spec.now self.old counts.old at) }
+        ensures went { IfOk result (λ next. IsRelaying (relaying flow_spec.now self.new counts.new next)) }
+        ensures stayed { OnErr result (IsRelaying (relaying flow_spec.now self.new counts.new at)) }
         ensures none_falls { NoneFalls (driven counts.old) (driven counts.new) }
         ensures refused { IfErr result (λ e. Met G.answers gate.now e) }
     {
         match at {
-            Phase::EnablingTx => Ok(self.enable_tx(task, *counts)),
-            Phase::EnablingRx => Ok(self.enable_rx(task, *counts)),
+            Phase::EnablingTx => Ok(self.enable_tx(flow_spec, *counts)),
+            Phase::EnablingRx => Ok(self.enable_rx(flow_spec, *counts)),
             Phase::Forwarding(made) => {
-                self.refill(rt, task);
-                self.forward(rt, gate, task, counts, made)
+                self.refill(rt, flow_spec);
+                self.forward(rt, gate, flow_spec, counts, made)
             }
             Phase::Disabling(ended, untaken, unsent) => {
-                Ok(self.finish(task, *counts, ended, untaken, unsent))
+                Ok(self.finish(flow_spec, *counts, ended, untaken, unsent))
             }
-            Phase::Reclaiming(left) => Ok(self.reclaim(rt, task, *counts, left)),
+            Phase::Reclaiming(left) => Ok(self.reclaim(rt, flow_spec, *counts, left)),
             Phase::Over(left) => Ok(Phase::Over(left)),
         }
     }
 
     /// Enables the transmit queue.
-    fn enable_tx(&mut self, task: &Task<'_>, counts: Counts) -> Phase
-        requires { IsRelaying (relaying task.now self.old counts phase.EnablingTx) }
-        ensures { IsRelaying (relaying task.now self.new counts result) }
+    fn enable_tx(&mut self, flow_spec: &FlowSpec<'_>, counts: Counts) -> Phase
+        requires { IsRelaying (relaying flow_spec.now self.old counts phase.EnablingTx) }
+        ensures { IsRelaying (relaying flow_spec.now self.new counts result) }
     {
-        match self.tx.enable(task.to) {
+        match self.tx.enable(flow_spec.to) {
             Ok(true) => Phase::EnablingRx,
             _ => Phase::EnablingTx,
         }
     }
 
     /// Enables the receive queue.
-    fn enable_rx(&mut self, task: &Task<'_>, counts: Counts) -> Phase
-        requires { IsRelaying (relaying task.now self.old counts phase.EnablingRx) }
-        ensures { IsRelaying (relaying task.now self.new counts result) }
+    fn enable_rx(&mut self, flow_spec: &FlowSpec<'_>, counts: Counts) -> Phase
+        requires { IsRelaying (relaying flow_spec.now self.old counts phase.EnablingRx) }
+        ensures { IsRelaying (relaying flow_spec.now self.new counts result) }
     {
-        match self.rx.enable(task.from) {
+        match self.rx.enable(flow_spec.from) {
             Ok(true) => Phase::Forwarding(0),
             _ => Phase::EnablingRx,
         }
@@ -74,50 +74,50 @@ impl Load {
         &mut self,
         rt: &R,
         gate: &G,
-        task: &Task<'_>,
+        flow_spec: &FlowSpec<'_>,
         counts: &mut Counts,
         made: u32,
     ) -> Result<Phase, ForwardError>
-        requires { IsRelaying (relaying task.now self.old counts.old (phase.Forwarding made)) }
-        ensures went { IfOk result (λ next. IsRelaying (relaying task.now self.new counts.new next)) }
-        ensures next { IfOk result (λ next. GoesTo task.now.turns made next) }
-        ensures stayed { OnErr result (IsRelaying (relaying task.now self.new counts.new (phase.Forwarding made))) }
+        requires { IsRelaying (relaying flow_spec.now self.old counts.old (phase.Forwarding made)) }
+        ensures went { IfOk result (λ next. IsRelaying (relaying flow_spec.now self.new counts.new next)) }
+        ensures next { IfOk result (λ next. GoesTo flow_spec.now.turns made next) }
+        ensures stayed { OnErr result (IsRelaying (relaying flow_spec.now self.new counts.new (phase.Forwarding made))) }
         ensures none_falls { NoneFalls (driven counts.old) (driven counts.new) }
         ensures refused { IfErr result (λ e. Met G.answers gate.now e) }
     {
-        let quiet = self.rx.is_quiet(task.from);
+        let quiet = self.rx.is_quiet(flow_spec.from);
         let room = self.packets.len() < MOST_BATCH;
-        let turned = self.relay(rt, gate, task, counts)?;
+        let turned = self.relay(rt, gate, flow_spec, counts)?;
         if quiet && room && turned.taken == 0 && self.is_clean() {
-            self.close(task);
+            self.close(flow_spec);
             return Ok(Phase::Disabling(Ended::Drained, None, None));
         }
-        if task.turns == 0 {
+        if flow_spec.turns == 0 {
             return Ok(Phase::Forwarding(made));
         }
-        if made < task.turns - 1 {
+        if made < flow_spec.turns - 1 {
             return Ok(Phase::Forwarding(made + 1));
         }
-        self.close(task);
+        self.close(flow_spec);
         Ok(Phase::Disabling(Ended::Cut, None, None))
     }
 
     /// Waits for the answers to both disablings.
     fn finish(
         &mut self,
-        task: &Task<'_>,
+        flow_spec: &FlowSpec<'_>,
         counts: Counts,
         ended: Ended,
         untaken: Option<u32>,
         unsent: Option<u32>,
     ) -> Phase
-        requires { IsRelaying (relaying task.now self.old counts (phase.Disabling ended untaken unsent)) }
-        ensures { IsRelaying (relaying task.now self.new counts result) }
+        requires { IsRelaying (relaying flow_spec.now self.old counts (phase.Disabling ended untaken unsent)) }
+        ensures { IsRelaying (relaying flow_spec.now self.new counts result) }
     {
-        let untaken = finish_rx(&mut self.rx, task.from, untaken);
-        let unsent = finish_tx(&mut self.tx, task.to, unsent);
+        let untaken = finish_rx(&mut self.rx, flow_spec.from, untaken);
+        let unsent = finish_tx(&mut self.tx, flow_spec.to, unsent);
         match (untaken, unsent) {
-            (Some(untaken), Some(unsent)) => Phase::Reclaiming(Left {
+            (Some(untaken), Some(unsent)) => Phase::Reclaiming(Undelivered {
                 ended,
                 untaken,
                 unsent,
@@ -128,29 +128,39 @@ impl Load {
 
     /// Returns the packets that wait and the stash to the pool, and moves buffers of both queues into the stash. If
     /// that reclaims all of them, returns these too.
-    fn reclaim<R: Wait>(&mut self, rt: &R, task: &Task<'_>, counts: Counts, left: Left) -> Phase
-        requires { IsRelaying (relaying task.now self.old counts (phase.Reclaiming left)) }
-        ensures { IsRelaying (relaying task.now self.new counts result) }
+    fn reclaim<R: Wait>(
+        &mut self,
+        rt: &R,
+        flow_spec: &FlowSpec<'_>,
+        counts: Counts,
+        left: Undelivered,
+    ) -> Phase
+        requires { IsRelaying (relaying flow_spec.now self.old counts (phase.Reclaiming left)) }
+        ensures { IsRelaying (relaying flow_spec.now self.new counts result) }
     {
-        self.give_at_hand(rt, task);
-        if self.rx.reclaim_into(task.from, &mut self.stash).is_err() {
+        self.give_at_hand(rt, flow_spec);
+        if self
+            .rx
+            .reclaim_into(flow_spec.from, &mut self.stash)
+            .is_err()
+        {
             return Phase::Reclaiming(left);
         }
-        if self.tx.reclaim_into(task.to, &mut self.stash).is_err() {
+        if self.tx.reclaim_into(flow_spec.to, &mut self.stash).is_err() {
             return Phase::Reclaiming(left);
         }
-        self.give_at_hand(rt, task);
+        self.give_at_hand(rt, flow_spec);
         Phase::Over(left)
     }
 
     /// Returns the packets that wait and the stash to the pool.
-    fn give_at_hand<R: Wait>(&mut self, rt: &R, task: &Task<'_>)
-        requires { IsLoaded task.now self.old.pass (driving_of self.old) }
-        ensures loaded { IsLoaded task.now self.new.pass (driving_of self.new) }
+    fn give_at_hand<R: Wait>(&mut self, rt: &R, flow_spec: &FlowSpec<'_>)
+        requires { IsEquipped flow_spec.now self.old.pass (driving_of self.old) }
+        ensures equipped { IsEquipped flow_spec.now self.new.pass (driving_of self.new) }
         ensures none { (self.new.stash ≡ []) × (self.new.packets.items ≡ []) }
         ensures drivers { (self.new.rx ≡ self.old.rx) × (self.new.tx ≡ self.old.tx) }
     {
-        self.drop_waiting(rt, task);
-        give_stash(rt, task.pool, &mut self.pass, &mut self.stash);
+        self.drop_waiting(rt, flow_spec);
+        give_stash(rt, flow_spec.pool, &mut self.pass, &mut self.stash);
     }
 }

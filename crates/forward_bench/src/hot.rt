@@ -2,11 +2,11 @@
 ghost use Rattle.settings.specs.Configs.{IsLawful};
 
 use crate::hot_flow::HotFlow;
-use crate::load::Load;
 use crate::sides::make_sides;
+use crate::workload::Workload;
 use anyhow::{Result, ensure};
 use flows::{DriverFlow, Served, serve_flows};
-use forwarder::{Config, make_lines};
+use forwarder::{Config, make_rings};
 use forwarding::Open;
 use pool::Pool;
 use std::alloc::Global;
@@ -25,12 +25,12 @@ fn all_went(driver: &DriverFlow<'_>, controller: &HotFlow<'_>, count: u64) -> bo
     [tally.stored, counts.taken, counts.posted, sent] == [count; 4]
 }
 
-/// Whether all frames of the load were sent, each on its flow.
-fn is_whole(served: &Served<DriverFlow<'_>, HotFlow<'_>>, load: &Load) -> bool {
+/// Whether all frames of the workload were sent, each on its flow.
+fn is_whole(served: &Served<DriverFlow<'_>, HotFlow<'_>>, workload: &Workload) -> bool {
     let sides = served.drivers.iter().zip(served.controllers.iter());
-    let mut rest = u64::from(load.frames);
+    let mut rest = u64::from(workload.frames);
     for ((driver, controller), number) in sides.zip(0..usize::MAX) {
-        let count = load.frames_of(number);
+        let count = workload.frames_of(number);
         if !all_went(driver, controller, count) {
             return false;
         }
@@ -44,7 +44,7 @@ fn is_whole(served: &Served<DriverFlow<'_>, HotFlow<'_>>, load: &Load) -> bool {
 fn forward_hot<R: Threads + Wait + Sync>(
     rt: &R,
     alloc: Global,
-    load: &Load,
+    workload: &Workload,
     config: &Config,
     frames: &[Vec<u8>],
 ) -> Result<bool>
@@ -52,25 +52,25 @@ fn forward_hot<R: Threads + Wait + Sync>(
 {
     let workers = config.workers as usize;
     let (pool, mut pass) = Pool::new(rt, alloc, config.buffers)?;
-    let (lines, ends) = make_lines(alloc, config)?;
+    let (lines, ends) = make_rings(alloc, config)?;
     let sides = make_sides(
-        rt, alloc, load, config, frames, &lines, ends, &pool, &mut pass,
+        rt, alloc, workload, config, frames, &lines, ends, &pool, &mut pass,
     )?;
     let served = serve_flows(rt, alloc, &Open, sides.drivers, sides.controllers, workers);
-    Ok(is_whole(&served, load))
+    Ok(is_whole(&served, workload))
 }
 
-/// Forwards the load by hot flows, and returns the time.
+/// Forwards the workload by hot flows, and returns the time.
 pub(crate) fn run_hot<R: Threads + Wait + Clock + Sync>(
     rt: &R,
     alloc: Global,
-    load: &Load,
+    workload: &Workload,
 ) -> Result<Duration> {
-    let config = load.config();
+    let config = workload.config();
     ensure!(config.is_lawful(), "the configuration is not valid");
-    let frames = load.bytes(alloc, FRAMES)?;
+    let frames = workload.bytes(alloc, FRAMES)?;
     let start = Instant::now(rt)?;
-    let whole = forward_hot(rt, alloc, load, &config, &frames)?;
+    let whole = forward_hot(rt, alloc, workload, &config, &frames)?;
     let spent = start.elapsed(rt)?;
     ensure!(whole, "not all frames were sent");
     Ok(spent)

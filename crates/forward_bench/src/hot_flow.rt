@@ -5,7 +5,7 @@ ghost use Rattle.refusals.specs.declared.errors.ForwardError.TheVariants.{Memory
 ghost use Rattle.shared_ring.specs.Calls.{IsFreshController};
 
 use controller::{Offer, RxController, Tally, Turn, TxController, Wire};
-use flows::Service;
+use flows::QueuePhase;
 use forwarding::{Flow, ForwardError, Gate, Progress};
 use rx_ring::{RxControllerEnd, RxRing};
 use std::alloc::Global;
@@ -25,8 +25,8 @@ pub(crate) struct HotFlow<'a> {
     to: &'a TxRing,
     rx: RxController,
     tx: TxController,
-    receiving: Service,
-    sending: Service,
+    receiving: QueuePhase,
+    sending: QueuePhase,
     frames: &'a [Vec<u8>],
     /// The index of the next frame to offer.
     next: usize,
@@ -58,8 +58,8 @@ impl<'a> HotFlow<'a> {
             to: rings.1,
             rx: RxController::new(ends.0, FILL, false),
             tx: TxController::new(ends.1),
-            receiving: Service::Waiting,
-            sending: Service::Waiting,
+            receiving: QueuePhase::Waiting,
+            sending: QueuePhase::Waiting,
             frames,
             next: 0,
             left: count,
@@ -75,13 +75,13 @@ impl<'a> HotFlow<'a> {
     }
 
     /// Answers the requests of both queues. Returns whether it answered any.
-    fn shake(&mut self) -> bool {
+    fn control_step(&mut self) -> bool {
         let was = (self.receiving, self.sending);
-        if self.receiving != Service::Ended {
+        if self.receiving != QueuePhase::Ended {
             self.rx.turn_control(self.from);
             self.receiving = self.receiving.after(self.rx.is_serving());
         }
-        if self.sending != Service::Ended {
+        if self.sending != QueuePhase::Ended {
             self.tx.turn_control(self.to);
             self.sending = self.sending.after(self.tx.is_serving());
         }
@@ -90,7 +90,7 @@ impl<'a> HotFlow<'a> {
 
     /// Offers the next frame, or, after the last one, says that no more comes. Returns whether that succeeded.
     fn offer(&mut self) -> bool {
-        if self.receiving != Service::Serving {
+        if self.receiving != QueuePhase::Serving {
             return false;
         }
         if self.left == 0 {
@@ -117,7 +117,7 @@ impl<'a> HotFlow<'a> {
     fn send(&mut self) -> Result<bool, ForwardError>
         ensures { IfErr result (λ e. e ≡ Memory) }
     {
-        if self.sending != Service::Serving {
+        if self.sending != QueuePhase::Serving {
             return Ok(false);
         }
         let Ok(turn) = self.tx.turn(self.to, &mut self.wire) else {
@@ -135,7 +135,7 @@ impl<'a> HotFlow<'a> {
     fn has_served(&self) -> bool
         ensures { result ≡ (has_ended self.now.receiving && has_ended self.now.sending) }
     {
-        self.receiving == Service::Ended && self.sending == Service::Ended
+        self.receiving == QueuePhase::Ended && self.sending == QueuePhase::Ended
     }
 }
 
@@ -152,7 +152,7 @@ impl<'a> Flow for HotFlow<'a> {
     ghost numbers = { λ _. [] };
 
     fn turn<R: Wait, G: Gate>(&mut self, _rt: &R, _gate: &G) -> Result<Progress, ForwardError> {
-        let asked = self.shake();
+        let asked = self.control_step();
         let offered = self.offer();
         let sent = self.send()?;
         Ok(if self.has_served() {

@@ -1,5 +1,7 @@
 //! The program `forward_bench`: the cost of forwarding a frame, and a soak test, which compares the frames that leave
 //! with those that come in.
+//! Depends on `forwarder`, the crates below it, and `anyhow`.
+//! Guarantees what a measurement needs to run a flow, and nothing else.
 //!
 //! It forwards a script of frames of one size, shared out to the flows in turn, and keeps the wires. Or it offers a few
 //! frames to each flow again and again, and drops the wires. The time is that of the whole call, which also makes the
@@ -8,16 +10,15 @@
 
 mod hot;
 mod hot_flow;
-mod load;
 mod sides;
 mod soak;
+mod workload;
 
 use anyhow::{Result, ensure};
 use flows::{Ended, FlowReport};
 use forwarder::{Config, Report, forward};
 use forwarding::Open;
 use hot::run_hot;
-use load::Load;
 use soak::{Soak, run_soak};
 use std::alloc::Global;
 use std::env;
@@ -27,6 +28,7 @@ use std::sync::Wait;
 use std::thread::Threads;
 use std::time::{Duration, Instant};
 use wire_script::Script;
+use workload::Workload;
 
 const USAGE: &str =
     "Usage: forward_bench --ring N --frames N --size N --batch N --flows N --workers N --keep N
@@ -58,11 +60,11 @@ fn is_whole(flow: &FlowReport, count: u64) -> bool {
         && flow.ended == Ended::Drained
 }
 
-/// Whether all frames of the load were sent, each on its flow.
-fn all_went(report: &Report, load: &Load) -> bool {
-    let mut rest = u64::from(load.frames);
-    for (flow, k) in report.flows.iter().zip(0..load.flows) {
-        let count = load.frames_of(k as usize);
+/// Whether all frames of the workload were sent, each on its flow.
+fn all_went(report: &Report, workload: &Workload) -> bool {
+    let mut rest = u64::from(workload.frames);
+    for (flow, k) in report.flows.iter().zip(0..workload.flows) {
+        let count = workload.frames_of(k as usize);
         if !is_whole(flow, count) {
             return false;
         }
@@ -71,35 +73,35 @@ fn all_went(report: &Report, load: &Load) -> bool {
     rest == 0
 }
 
-/// Forwards the load as a script, and returns the time.
+/// Forwards the workload as a script, and returns the time.
 fn run_script<R: Threads + Wait + Clock + Sync>(
     rt: &R,
     alloc: Global,
-    load: &Load,
+    workload: &Workload,
 ) -> Result<Duration> {
-    let script: Script = load.script(alloc)?;
-    let config: Config = load.config();
+    let script: Script = workload.script(alloc)?;
+    let config: Config = workload.config();
     let start = Instant::now(rt)?;
     let report = forward(rt, alloc, &script, &config, &Open)?;
     let spent = start.elapsed(rt)?;
-    ensure!(all_went(&report, load), "not all frames were sent");
+    ensure!(all_went(&report, workload), "not all frames were sent");
     Ok(spent)
 }
 
-/// Forwards the load, and prints the cost of a frame.
+/// Forwards the workload, and prints the cost of a frame.
 fn print_cost<R: Threads + Wait + Clock + Sync + Print>(
     rt: &R,
     alloc: Global,
-    load: &Load,
+    workload: &Workload,
 ) -> Result<()> {
-    let spent = if load.keeps {
-        run_script(rt, alloc, load)?
+    let spent = if workload.keeps {
+        run_script(rt, alloc, workload)?
     } else {
-        run_hot(rt, alloc, load)?
+        run_hot(rt, alloc, workload)?
     };
     let spent = spent.as_secs_f64();
-    let frames = f64::from(load.frames);
-    println!(rt; "frames {}", load.frames)?;
+    let frames = f64::from(workload.frames);
+    println!(rt; "frames {}", workload.frames)?;
     println!(rt; "ns/frame {:.1}", spent * 1e9 / frames)?;
     println!(rt; "Mframes/s {:.3}", frames / spent / 1e6)?;
     Ok(())
@@ -107,8 +109,8 @@ fn print_cost<R: Threads + Wait + Clock + Sync + Print>(
 
 fn main(rt: HostRuntime) -> Result<ExitCode> {
     let words: Vec<String> = env::args(&rt)?.skip(1).collect(rt.alloc())?;
-    if let Some(load) = Load::of(words.as_slice()) {
-        print_cost(&rt, rt.alloc(), &load)?;
+    if let Some(workload) = Workload::of(words.as_slice()) {
+        print_cost(&rt, rt.alloc(), &workload)?;
         return Ok(ExitCode::SUCCESS);
     }
     let Some(soak) = Soak::of(words.as_slice()) else {

@@ -3,13 +3,13 @@
 ghost use Rattle.std.specs.Prelude.{◌≡◌, ℕ, ◌<◌, [], length, vec_len, slice_index_or};
 ghost use Rattle.pool.specs.Owned.{IsOf};
 ghost use Rattle.settings.specs.Configs.{IsLawful};
-ghost use Rattle.forwarder.specs.Lines.{AreEnds};
+ghost use Rattle.forwarder.specs.Rings.{AreEnds};
 
 use crate::hot_flow::HotFlow;
-use crate::load::Load;
+use crate::workload::Workload;
 use anyhow::Result;
-use flows::{DriverFlow, Task};
-use forwarder::{Config, Line, LineEnds};
+use flows::{DriverFlow, FlowSpec};
+use forwarder::{Config, FlowRingEnds, FlowRings};
 use pool::{Pool, PoolPass};
 use std::alloc::Global;
 use std::sync::Wait;
@@ -29,7 +29,7 @@ struct Feed<'a> {
 
 /// Both sides of one flow.
 #[derive(Drop)]
-struct Side<'a> {
+struct FlowSides<'a> {
     driver: DriverFlow<'a>,
     controller: HotFlow<'a>,
 }
@@ -48,11 +48,11 @@ fn make_side<'a, R: Wait>(
     config: &Config,
     number: usize,
     feed: Feed<'a>,
-    line: &'a Line,
-    ends: LineEnds,
+    line: &'a FlowRings,
+    ends: FlowRingEnds,
     pool: &'a Pool,
     pass: PoolPass,
-) -> Side<'a>
+) -> FlowSides<'a>
     requires lawful { IsLawful config.now }
     requires ends { AreEnds config.now.ring config.now.completion line.now ends }
     requires pool { IsOf pool.now pass }
@@ -61,7 +61,7 @@ fn make_side<'a, R: Wait>(
 {
     let share = config.buffers / (2 * config.pairs);
     let most = share.min(config.ring + STASHED) as usize;
-    let task = Task {
+    let flow_spec = FlowSpec {
         number,
         from: &line.from,
         to: &line.to,
@@ -72,7 +72,7 @@ fn make_side<'a, R: Wait>(
     };
     let driver = DriverFlow::start(
         rt,
-        task,
+        flow_spec,
         (ends.takes, ends.posts),
         pass,
         most,
@@ -86,18 +86,18 @@ fn make_side<'a, R: Wait>(
         feed.frames,
         feed.count,
     );
-    Side { driver, controller }
+    FlowSides { driver, controller }
 }
 
 /// Makes both sides of each flow. Splits off a pass for each driver.
 pub(crate) fn make_sides<'a, R: Wait>(
     rt: &R,
     alloc: Global,
-    load: &Load,
+    workload: &Workload,
     config: &Config,
     frames: &'a [Vec<u8>],
-    lines: &'a [Line],
-    ends: Vec<LineEnds>,
+    lines: &'a [FlowRings],
+    ends: Vec<FlowRingEnds>,
     pool: &'a Pool,
     pass: &mut PoolPass,
 ) -> Result<Sides<'a>>
@@ -111,7 +111,7 @@ pub(crate) fn make_sides<'a, R: Wait>(
     let mut controllers = Vec::with_capacity(alloc, lines.len())?;
     let mut number = 0;
     for own in ends {
-        let count = load.frames_of(number);
+        let count = workload.frames_of(number);
         let feed = Feed { frames, count };
         let share = pass.split(pool, SHARE);
         let line = &lines[number];

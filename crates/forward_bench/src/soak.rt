@@ -9,7 +9,7 @@ mod frames;
 mod parts;
 mod seen;
 
-use crate::load::number_of;
+use crate::workload::number_of;
 use anyhow::Result;
 use frames::script_of;
 use limits::MOST_SCRIPT_FRAMES;

@@ -11,8 +11,8 @@ use Rattle.capture.specs.Frames.{frames_at}
 use Rattle.requests.specs.declared.refusal.Refusal.{Refusal}
 use Rattle.requests.specs.declared.refusal.Refusal.TheVariants as refusal
 use Rattle.wire_script.specs.Frame.{Frame}
-use Rattle.forward_io.specs.declared.captured.refused.Place.TheVariants.{Source}
-use Rattle.forward_io.specs.declared.captured.refused.Refused.{Refused}
+use Rattle.forward_io.specs.declared.captured.refused.RefusalSubject.TheVariants.{Source}
+use Rattle.forward_io.specs.declared.captured.refused.FileRefusal.{FileRefusal}
 use Rattle.forward_io.specs.Refusals.{IsFileNotRead}
 use Rattle.requests.specs.Files.{SourceFile}
 
@@ -53,7 +53,7 @@ IsUnread reading s before e =
     × Fails fault (with_capture reading before s.port s.queue bytes)))
 
 -- the first source that is refused, and why: captures of the sources before it were gathered
-pub record IsUngathered (reading : ReadOptions) (sources : List SourceFile) (e : Refused) : Type 0 where
+pub record IsUngathered (reading : ReadOptions) (sources : List SourceFile) (e : FileRefusal) : Type 0 where
   pub at : ℕ
   pub source : SourceFile
   pub before : List Frame

@@ -1,11 +1,11 @@
 -- A refusal, and its subject.
 use Rattle.requests.specs.declared.refusal.Refusal.{Refusal}
 use Rattle.requests.specs.declared.refusal.Refusal.TheVariants.{FileNotRead, FileNotWritten}
-use Rattle.forward_io.specs.declared.captured.refused.Place.TheVariants.{Command}
-use Rattle.forward_io.specs.declared.captured.refused.Refused.{Refused}
+use Rattle.forward_io.specs.declared.captured.refused.RefusalSubject.TheVariants.{Command}
+use Rattle.forward_io.specs.declared.captured.refused.FileRefusal.{FileRefusal}
 
 -- a refusal of the command itself, or of one of its streams
-abbrev pub refused_itself : Refusal → Refused
+abbrev pub refused_itself : Refusal → FileRefusal
 refused_itself e = record { place = Command; refusal = e }
 
 -- a file cannot be read, or cannot be written, whatever the system's error number

@@ -5,8 +5,8 @@ use Rattle.requests.specs.declared.refusal.Refusal.TheVariants as refusal
 use Rattle.wire_script.specs.Frame.{Frame}
 use Rattle.wire_script.specs.ScriptError.{Fails}
 use Rattle.refusals.specs.declared.errors.ScriptError.{ScriptError}
-use Rattle.forward_io.specs.declared.captured.refused.Place.TheVariants.{Command}
-use Rattle.forward_io.specs.declared.captured.refused.Refused.{Refused}
+use Rattle.forward_io.specs.declared.captured.refused.RefusalSubject.TheVariants.{Command}
+use Rattle.forward_io.specs.declared.captured.refused.FileRefusal.{FileRefusal}
 use Rattle.forward_io.specs.Gathering.{AreGathered, IsUngathered}
 use Rattle.forward_io.specs.Intakes.{FrameIntake, reads_script, room_after, script_within}
 use Rattle.capture.specs.declared.options.Skipped.{Skipped}
@@ -32,7 +32,7 @@ IsFaulty input captured e =
     × (fault : ScriptError) × (e ≡ refusal.Script fault) × Fails fault (script_within (room_after captured) text)))
 
 -- the input is read after the captures, and there is no script in it
-pub record IsInputFaulty (intake : FrameIntake) (input : Option (List ℕ)) (e : Refused) : Type 0 where
+pub record IsInputFaulty (intake : FrameIntake) (input : Option (List ℕ)) (e : FileRefusal) : Type 0 where
   pub captured : List Frame
   pub skipped : List Skipped
   pub gathered : AreGathered intake.reading intake.sources captured skipped
@@ -41,5 +41,5 @@ pub record IsInputFaulty (intake : FrameIntake) (input : Option (List ℕ)) (e :
   pub why : IsFaulty input captured e.refusal
 
 -- why there is no script: a capture is refused, or the input
-abbrev pub IsNoScript : FrameIntake → Option (List ℕ) → Refused → Type 0
+abbrev pub IsNoScript : FrameIntake → Option (List ℕ) → FileRefusal → Type 0
 IsNoScript intake input e = IsUngathered intake.reading intake.sources e ⊎ IsInputFaulty intake input e

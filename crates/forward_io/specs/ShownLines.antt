@@ -2,20 +2,20 @@
 use Rattle.std.specs.Prelude.{ℕ, List, ◌∷◌, ◌++◌, codes, decimal}
 use Rattle.requests.specs.declared.printing.ProgressForm.{ProgressForm}
 use Rattle.requests.specs.declared.printing.ProgressForm.TheVariants.{Lines, Rewritten, Objects}
-use Rattle.forward_io.specs.declared.progress.Shown.{Shown}
+use Rattle.forward_io.specs.declared.progress.LiveTotals.{LiveTotals}
 
 -- the numbers, each after its word
-abbrev pub words_of : Shown → List ℕ
+abbrev pub words_of : LiveTotals → List ℕ
 words_of s = codes "offered " ++ decimal s.offered ++ codes " of " ++ decimal s.frames ++ codes " taken " ++ decimal s.taken
     ++ codes " posted " ++ decimal s.posted ++ codes " per-second " ++ decimal s.per_second
 
 -- the numbers as members of a JSON object
-abbrev pub members_of : Shown → List ℕ
+abbrev pub members_of : LiveTotals → List ℕ
 members_of s = codes "\"offered\":" ++ decimal s.offered ++ codes ",\"frames\":" ++ decimal s.frames ++ codes ",\"taken\":" ++ decimal s.taken
     ++ codes ",\"posted\":" ++ decimal s.posted ++ codes ",\"per_second\":" ++ decimal s.per_second
 
 -- a rewritten line of a terminal begins with CR, ESC and `[K`, which clear it
-abbrev pub line_text : ProgressForm → Shown → List ℕ
+abbrev pub line_text : ProgressForm → LiveTotals → List ℕ
 line_text Lines s = words_of s
 line_text Rewritten s = (13 ∷ 27 ∷ codes "[K") ++ words_of s
 line_text Objects s = codes "{" ++ members_of s ++ codes "}"

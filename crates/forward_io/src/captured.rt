@@ -19,9 +19,9 @@ mod targets;
 mod wires;
 mod writing;
 
-pub use gathering::{Gathered, add_capture, gather};
+pub use gathering::{CapturedScript, add_capture, gather};
 pub use intake::Intake;
-pub use refused::{Place, Refused, tell};
+pub use refused::{FileRefusal, RefusalSubject, tell};
 pub use running::{page_for, script_for};
 pub use targets::{Target, targets_of};
 pub use wires::wire_capture;

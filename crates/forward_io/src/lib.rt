@@ -1,8 +1,9 @@
 //! What the command `forward` reads and prints, apart from the run itself: captures and scripts come in, the text of a
 //! report and captures go out. And the commands `from-capture` and `to-capture`, which convert between both.
-//! Depends on `requests`, `commands`, `settings`, `forwarding`, `controller`, `wire_script`, `capture`, `text_lines`,
-//! `limits` and `refusals`.
-//! Each text and each capture is a function of the report or of the input, and a refusal names its cause.
+//! Depends on `requests`, `settings`, `forwarding`, `controller`, `wire_script`, `capture`, `text_lines`, `limits` and
+//! `refusals`.
+//! Guarantees that each text and each capture is a function of the report or of the input, and that a refusal names its
+//! cause.
 //!
 //! [`text_of`] returns the text of a report: the frames of the wires as script lines, then the counts of each flow as a
 //! line or a JSON object. [`ProgressLine`] is the text of a run's progress. [`captured`] has the captures of `--capture`
@@ -17,5 +18,5 @@ mod progress;
 mod skips;
 mod text;
 
-pub use progress::{ProgressLine, Shown};
+pub use progress::{LiveTotals, ProgressLine};
 pub use text::text_of;

@@ -7,7 +7,7 @@ use std::fmt;
 
 /// The sums over all flows. Some flows may be read later than others.
 #[derive(Clone, Copy, Debug, PartialEq, Eq)]
-pub struct Shown {
+pub struct LiveTotals {
     /// The frames offered so far.
     pub offered: u64,
     /// The frames of the script.
@@ -26,7 +26,7 @@ pub struct ProgressLine {
     /// The form of the text.
     pub form: ProgressForm,
     /// The numbers.
-    pub shown: Shown,
+    pub shown: LiveTotals,
 }
 
 impl fmt::Display for ProgressLine {
@@ -45,14 +45,14 @@ impl fmt::Display for ProgressLine {
 /// The numbers, each after its word.
 #[derive(Clone, Copy)]
 struct Words {
-    shown: Shown,
+    shown: LiveTotals,
 }
 
 impl fmt::Display for Words {
     ghost output = { λ w. Some (words_of w.shown) };
 
     fn fmt<W: fmt::Write>(&self, f: &mut fmt::Formatter<W>) -> fmt::Result {
-        let Shown {
+        let LiveTotals {
             offered,
             frames,
             taken,
@@ -69,14 +69,14 @@ impl fmt::Display for Words {
 /// The numbers as members of a JSON object.
 #[derive(Clone, Copy)]
 struct Members {
-    shown: Shown,
+    shown: LiveTotals,
 }
 
 impl fmt::Display for Members {
     ghost output = { λ m. Some (members_of m.shown) };
 
     fn fmt<W: fmt::Write>(&self, f: &mut fmt::Formatter<W>) -> fmt::Result {
-        let Shown {
+        let LiveTotals {
             offered,
             frames,
             taken,

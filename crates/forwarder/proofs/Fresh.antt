@@ -6,7 +6,7 @@ use Rattle.counters.specs.Paired.{ArePaired}
 use Rattle.counters.specs.declared.flows.FlowCells.{FlowCells}
 use Rattle.counters.specs.declared.flows.FlowPens.{FlowPens}
 use Rattle.flows.specs.Counting.{driven, none, offered}
-use Rattle.forwarder.specs.Watching.{ArePensOf, driven_shown, offered_shown}
+use Rattle.forwarder.specs.LiveStatistics.{ArePensOf, driven_shown, offered_shown}
 
 same-cons : {X : Type 0} (x y : X) (xs ys : List X) → x ≡ y → xs ≡ ys → x ∷ xs ≡ y ∷ ys
 same-cons x y xs ys first rest = ap (λ z. z ∷ xs) first ∙ ap (λ l. y ∷ l) rest

@@ -10,8 +10,8 @@ use Rattle.flows.specs.Reports.{IsReport}
 use Rattle.forwarding.specs.declared.report.FlowReport.{FlowReport}
 use Rattle.pool.specs.Owned.{Pooled}
 use Rattle.wire_script.specs.Frame.{Frame}
-use Rattle.forwarder.specs.Plans.{AreAllSides, AreOfLine, AreOfLines, AreReports}
-use Rattle.forwarder.specs.declared.lines.Line.{Line}
+use Rattle.forwarder.specs.Plans.{AreAllSides, AreOfRings, AreOfAllRings, AreReports}
+use Rattle.forwarder.specs.declared.flow_rings.FlowRings.{FlowRings}
 use Rattle.forwarder.specs.Flows.{flow_of, places_from, places_of}
 use Rattle.flows.specs.Driven.{Relaying}
 use Rattle.flows.specs.Sides.{Controlling}
@@ -114,15 +114,15 @@ any-default (x ∷ xs) zero d e low = refl
 any-default (x ∷ xs) (suc n) d e low = any-default xs n d e (omega (arith, low))
 
 -- the sides at other lists of the same keys, and another name for how many there are
-pub sides-at : (pool : Pooled) (n m : ℕ) (plans : ℕ → Plan) (lines : List Line) (ds ds' : List DriverKey) (cs cs' : List ControllerKey)
-    → n ≡ m → ds' ≡ ds → cs' ≡ cs → AreAllSides plans pool n lines ds cs → AreAllSides plans pool m lines ds' cs'
-sides-at pool n m plans lines ds ds' cs cs' e same same' sides =
-    subst (λ k. AreAllSides plans pool k lines ds' cs') e
-    (subst (λ a. AreAllSides plans pool n lines a cs') (sym same) (subst (λ b. AreAllSides plans pool n lines ds b) (sym same') sides))
+pub sides-at : (pool : Pooled) (n m : ℕ) (plans : ℕ → Plan) (rings : List FlowRings) (ds ds' : List DriverKey) (cs cs' : List ControllerKey)
+    → n ≡ m → ds' ≡ ds → cs' ≡ cs → AreAllSides plans pool n rings ds cs → AreAllSides plans pool m rings ds' cs'
+sides-at pool n m plans rings ds ds' cs cs' e same same' sides =
+    subst (λ k. AreAllSides plans pool k rings ds' cs') e
+    (subst (λ a. AreAllSides plans pool n rings a cs') (sym same) (subst (λ b. AreAllSides plans pool n rings ds b) (sym same') sides))
 
-pub lines-of : (pool : Pooled) (n m : ℕ) (plans : ℕ → Plan) (lines : List Line) (ds ds' : List DriverKey) (cs cs' : List ControllerKey)
-    → n ≡ m → ds' ≡ ds → cs' ≡ cs → AreAllSides plans pool n lines ds cs → AreOfLines pool m lines ds' cs'
-lines-of pool n m plans lines ds ds' cs cs' e same same' sides flow l d c low = (sides-at pool n m plans lines ds ds' cs cs' e same same' sides flow l d c low).of_line
+pub rings-of : (pool : Pooled) (n m : ℕ) (plans : ℕ → Plan) (rings : List FlowRings) (ds ds' : List DriverKey) (cs cs' : List ControllerKey)
+    → n ≡ m → ds' ≡ ds → cs' ≡ cs → AreAllSides plans pool n rings ds cs → AreOfAllRings pool m rings ds' cs'
+rings-of pool n m plans rings ds ds' cs cs' e same same' sides flow l d c low = (sides-at pool n m plans rings ds ds' cs cs' e same same' sides flow l d c low).of_flow_rings
 
 -- an item that is there
 item : {X : Type 0} (xs : List X) (i : ℕ) → i < length xs → X
@@ -131,21 +131,21 @@ item (x ∷ xs) zero low = x
 item (x ∷ xs) (suc i) low = item xs i (omega (arith, low))
 
 -- the reports are of the plans that the sides were told
-pub reports-of : (pool : Pooled) (n : ℕ) (plans : ℕ → Plan) (lines : List Line) (ds : List DriverKey) (cs : List ControllerKey) (reports : List FlowReport)
-    → length lines ≡ n → length ds ≡ n → length cs ≡ n → AreAllSides plans pool n lines ds cs → AreReports n ds cs reports
+pub reports-of : (pool : Pooled) (n : ℕ) (plans : ℕ → Plan) (rings : List FlowRings) (ds : List DriverKey) (cs : List ControllerKey) (reports : List FlowReport)
+    → length rings ≡ n → length ds ≡ n → length cs ≡ n → AreAllSides plans pool n rings ds cs → AreReports n ds cs reports
     → (flow : ℕ) (r : FlowReport) → flow < n → IsReport (plans flow) (slice_index_or reports flow r)
-reports-of pool n plans lines ds cs reports many many' many'' sides are flow r low =
-    let l = item lines flow (omega (arith, low, many)) in
+reports-of pool n plans rings ds cs reports many many' many'' sides are flow r low =
+    let l = item rings flow (omega (arith, low, many)) in
     let d = item ds flow (omega (arith, low, many')) in
     let c = item cs flow (omega (arith, low, many'')) in
     subst (λ p. IsReport p (slice_index_or reports flow r)) (sides flow l d c low).plan (are flow d c r low)
 
--- both sides of the flow that comes next are of the line at its place
-pub line-at : (pool : Pooled) (n k : ℕ) (lines : List Line) (line : Line) (drivers ds : List Relaying) (driver : Relaying) (controllers cs : List Controlling) (controller : Controlling)
-    → AreOfLines pool n lines (map (λ f. f.key) drivers) (map (λ f. f.key) controllers) → k < n → get_or lines k line ≡ line → drop k drivers ≡ driver ∷ ds → drop k controllers ≡ controller ∷ cs → AreOfLine pool line driver.key controller.key
-line-at pool n k lines line drivers ds driver controllers cs controller are low here first first' =
+-- both sides of the flow that comes next are of the rings at its place
+pub flow_rings-at : (pool : Pooled) (n k : ℕ) (rings : List FlowRings) (flow_rings : FlowRings) (drivers ds : List Relaying) (driver : Relaying) (controllers cs : List Controlling) (controller : Controlling)
+    → AreOfAllRings pool n rings (map (λ f. f.key) drivers) (map (λ f. f.key) controllers) → k < n → get_or rings k flow_rings ≡ flow_rings → drop k drivers ≡ driver ∷ ds → drop k controllers ≡ controller ∷ cs → AreOfRings pool flow_rings driver.key controller.key
+flow_rings-at pool n k rings flow_rings drivers ds driver controllers cs controller are low here first first' =
     let key = by-map (λ f. f.key) drivers k driver.key driver.key (drop-within k drivers driver ds first) (λ e. ap (λ f. f.key) (drop-first k drivers driver ds first e)) in
     let key' = by-map (λ f. f.key) controllers k controller.key controller.key (drop-within k controllers controller cs first') (λ e. ap (λ f. f.key) (drop-first k controllers controller cs first' e)) in
-    subst (λ l. AreOfLine pool l driver.key controller.key) here
-    (subst (λ a. AreOfLine pool (get_or lines k line) a controller.key) key
-    (subst (λ b. AreOfLine pool (get_or lines k line) (get_or (map (λ f. f.key) drivers) k driver.key) b) key' (are k line driver.key controller.key low)))
+    subst (λ l. AreOfRings pool l driver.key controller.key) here
+    (subst (λ a. AreOfRings pool (get_or rings k flow_rings) a controller.key) key
+    (subst (λ b. AreOfRings pool (get_or rings k flow_rings) (get_or (map (λ f. f.key) drivers) k driver.key) b) key' (are k flow_rings driver.key controller.key low)))

@@ -6,7 +6,7 @@ use Rattle.pool.proofs.Totals.{total-append}
 use Rattle.pool.proofs.Moving.{total-shuffled}
 use Rattle.shared_ring.specs.Meeting.{number_at}
 use Rattle.flows.specs.Holding.{HoldsJust}
-use Rattle.lending.proofs.Giving.{shuffled}
+use Rattle.buffer_accounting.proofs.Giving.{shuffled}
 
 -- all that is held: first what is at hand, then what is out in both rings
 pub at-hand-first : (held stash out_rx chain packets out_tx : List ℕ) → HoldsJust held (stash ++ ((out_rx ++ chain) ++ (packets ++ out_tx)))

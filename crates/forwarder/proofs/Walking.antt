@@ -3,9 +3,9 @@ use Rattle.std.proofs.Common.{◌≡◌, ◌∙◌, ℕ, ◌+◌, ◌<◌, ◌�
 use Rattle.flows.specs.Driven.{Relaying}
 use Rattle.flows.specs.Sides.{Controlling}
 use Rattle.pool.specs.Owned.{Pooled}
-use Rattle.forwarder.specs.Plans.{AreOfLine, AreOfLines}
-use Rattle.forwarder.specs.declared.lines.Line.{Line}
-use Rattle.forwarder.proofs.Plans.{drop-later, line-at}
+use Rattle.forwarder.specs.Plans.{AreOfRings, AreOfAllRings}
+use Rattle.forwarder.specs.declared.flow_rings.FlowRings.{FlowRings}
+use Rattle.forwarder.proofs.Plans.{drop-later, flow_rings-at}
 
 -- n of m items were taken, the first ones; these are left, and so many
 pub record Taken {X : Type 0} (n m : ℕ) (items left : List X) (len : ℕ) : Type 0 where
@@ -60,9 +60,9 @@ module _ {X Y W Z : Type 0} (n m : ℕ) where
     put = put-on n m ws ws' was.put grew;
   }
 
--- both sides that are taken next are of the line at their place
-pub line-met : {W Z : Type 0} (pool : Pooled) (n m : ℕ) (lines : List Line) (line : Line) (drivers left ds : List Relaying) (len : ℕ) (driver : Relaying) (controllers right cs : List Controlling) (more : ℕ) (controller : Controlling) (made : Vec W Z)
-    → AreOfLines pool m lines (map (λ f. f.key) drivers) (map (λ f. f.key) controllers) → Meets n m drivers left len controllers right more made
-    → n < m → get_or lines n line ≡ line → left ≡ driver ∷ ds → right ≡ controller ∷ cs → AreOfLine pool line driver.key controller.key
-line-met pool n m lines line drivers left ds len driver controllers right cs more controller made are was low here first first' =
-    line-at pool m n lines line drivers ds driver controllers cs controller are low here (sym was.one.rest ∙ first) (sym was.other.rest ∙ first')
+-- both sides that are taken next are of the rings at their place
+pub flow_rings-met : {W Z : Type 0} (pool : Pooled) (n m : ℕ) (rings : List FlowRings) (flow_rings : FlowRings) (drivers left ds : List Relaying) (len : ℕ) (driver : Relaying) (controllers right cs : List Controlling) (more : ℕ) (controller : Controlling) (made : Vec W Z)
+    → AreOfAllRings pool m rings (map (λ f. f.key) drivers) (map (λ f. f.key) controllers) → Meets n m drivers left len controllers right more made
+    → n < m → get_or rings n flow_rings ≡ flow_rings → left ≡ driver ∷ ds → right ≡ controller ∷ cs → AreOfRings pool flow_rings driver.key controller.key
+flow_rings-met pool n m rings flow_rings drivers left ds len driver controllers right cs more controller made are was low here first first' =
+    flow_rings-at pool m n rings flow_rings drivers ds driver controllers cs controller are low here (sym was.one.rest ∙ first) (sym was.other.rest ∙ first')

@@ -1,6 +1,6 @@
 pub mod Flows
-pub mod Lines
+pub mod Rings
 pub mod Plans
-pub mod Shown
+pub mod ShownCounts
 pub mod Stopped
-pub mod Watching
+pub mod LiveStatistics

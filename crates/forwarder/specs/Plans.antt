@@ -6,7 +6,7 @@ use Rattle.forwarding.specs.declared.report.FlowReport.{FlowReport}
 use Rattle.pool.specs.Owned.{Pooled}
 use Rattle.wire_script.specs.Frame.{Frame}
 use Rattle.settings.specs.declared.config.Config.{Config}
-use Rattle.forwarder.specs.declared.lines.Line.{Line}
+use Rattle.forwarder.specs.declared.flow_rings.FlowRings.{FlowRings}
 use Rattle.forwarder.specs.Flows.{places_of}
 
 -- The plan of a flow of the script under this configuration: its frames are those of the script that come in at its
@@ -15,25 +15,25 @@ abbrev pub plan : Config → List Frame → ℕ → Plan
 plan c script flow = record { frames = frames_at script (places_of c.pairs flow script); size = c.ring; fill = c.bsize; drops = c.drop_en; retries = c.retry; turns = c.turns }
 
 -- Both sides have the flow's two rings, and the driver's side has a share of 1 of the pool.
-pub record AreOfLine (pool : Pooled) (line : Line) (d : DriverKey) (c : ControllerKey) : Type 0 where
+pub record AreOfRings (pool : Pooled) (flow_rings : FlowRings) (d : DriverKey) (c : ControllerKey) : Type 0 where
   pub of_pool : d.pool ≡ pool
   pub share : d.share ≡ 1
-  pub from : (d.from ≡ line.from) × (c.input.from ≡ line.from)
-  pub to : (d.to ≡ line.to) × (c.to ≡ line.to)
+  pub from : (d.from ≡ flow_rings.from) × (c.input.from ≡ flow_rings.from)
+  pub to : (d.to ≡ flow_rings.to) × (c.to ≡ flow_rings.to)
 
 -- The settings of both sides are those of this plan.
-pub record AreSides (p : Plan) (pool : Pooled) (line : Line) (d : DriverKey) (c : ControllerKey) : Type 0 where
-  pub of_line : AreOfLine pool line d c
+pub record AreSides (p : Plan) (pool : Pooled) (flow_rings : FlowRings) (d : DriverKey) (c : ControllerKey) : Type 0 where
+  pub of_flow_rings : AreOfRings pool flow_rings d c
   pub plan : plan_of d c ≡ p
 
 -- The sides of the first `n` flows, place by place.
-abbrev pub AreAllSides : (ℕ → Plan) → Pooled → ℕ → List Line → List DriverKey → List ControllerKey → Type 0
-AreAllSides plans pool n lines drivers controllers =
-    (flow : ℕ) (l : Line) (d : DriverKey) (c : ControllerKey) → flow < n → AreSides (plans flow) pool (slice_index_or lines flow l) (slice_index_or drivers flow d) (slice_index_or controllers flow c)
+abbrev pub AreAllSides : (ℕ → Plan) → Pooled → ℕ → List FlowRings → List DriverKey → List ControllerKey → Type 0
+AreAllSides plans pool n rings drivers controllers =
+    (flow : ℕ) (l : FlowRings) (d : DriverKey) (c : ControllerKey) → flow < n → AreSides (plans flow) pool (slice_index_or rings flow l) (slice_index_or drivers flow d) (slice_index_or controllers flow c)
 
-abbrev pub AreOfLines : Pooled → ℕ → List Line → List DriverKey → List ControllerKey → Type 0
-AreOfLines pool n lines drivers controllers =
-    (flow : ℕ) (l : Line) (d : DriverKey) (c : ControllerKey) → flow < n → AreOfLine pool (slice_index_or lines flow l) (slice_index_or drivers flow d) (slice_index_or controllers flow c)
+abbrev pub AreOfAllRings : Pooled → ℕ → List FlowRings → List DriverKey → List ControllerKey → Type 0
+AreOfAllRings pool n rings drivers controllers =
+    (flow : ℕ) (l : FlowRings) (d : DriverKey) (c : ControllerKey) → flow < n → AreOfRings pool (slice_index_or rings flow l) (slice_index_or drivers flow d) (slice_index_or controllers flow c)
 
 -- A report for each of `n` flows, under the settings of both sides.
 abbrev pub AreReports : ℕ → List DriverKey → List ControllerKey → List FlowReport → Type 0

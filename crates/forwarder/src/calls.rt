@@ -9,11 +9,11 @@ ghost use Rattle.pool.specs.Owned.{IsOf};
 ghost use Rattle.flows.specs.Reports.{IsReport};
 ghost use Rattle.settings.specs.Configs.{FitsIn};
 ghost use Rattle.forwarder.specs.Plans.{plan};
-ghost use Rattle.forwarder.specs.Shown.{ShowReports};
+ghost use Rattle.forwarder.specs.ShownCounts.{ShowReports};
 ghost use Rattle.teams.specs.Refusals.{Halted};
 
+use crate::flow_rings::make_rings;
 use crate::index::Index;
-use crate::lines::make_lines;
 use crate::report::Report;
 use crate::running::{Job, Watch, run_flows};
 use crate::stopping::close_all;
@@ -156,10 +156,10 @@ fn forward_over<R: Threads + Wait + Sync, G: Gate + Sync>(
     ensures held { pass.new.hand.held ≡ pass.old.hand.held }
 {
     let index = Index::of(alloc, job.script, job.config.pairs)?;
-    let (lines, ends) = make_lines(alloc, job.config)?;
-    let ran = run_flows(rt, alloc, job, &index, &lines, ends, pool, pass, watch)?;
+    let (rings, ends) = make_rings(alloc, job.config)?;
+    let ran = run_flows(rt, alloc, job, &index, &rings, ends, pool, pass, watch)?;
     if let Some(refusal) = ran.refusal {
-        close_all(rt, pool, pass, lines, ran.stopped);
+        close_all(rt, pool, pass, rings, ran.stopped);
         return Err(refusal);
     }
     Ok((Report { flows: ran.flows }, ran.pens))

@@ -5,15 +5,15 @@ ghost use Rattle.flows.specs.Driven.{is_over};
 ghost use Rattle.flows.specs.Keys.{ControllerKey, DriverKey, plan_of};
 ghost use Rattle.flows.specs.Reports.{IsReport};
 ghost use Rattle.pool.specs.Owned.{IsOf};
-ghost use Rattle.forwarder.specs.Plans.{AreOfLine, AreOfLines, AreReports};
+ghost use Rattle.forwarder.specs.Plans.{AreOfRings, AreOfAllRings, AreReports};
 
-use crate::lines::Line;
+use crate::flow_rings::FlowRings;
 use flows::{ControllerFlow, DriverFlow, FlowReport, conclude};
 use pool::{Pool, PoolPass};
 
 /// Makes the report of a flow and joins its driver's pass.
 fn conclude_flow(
-    line: &Line,
+    flow_rings: &FlowRings,
     driver: DriverFlow<'_>,
     controller: ControllerFlow<'_>,
     pool: &Pool,
@@ -22,7 +22,7 @@ fn conclude_flow(
     ghost keys: { DriverKey × ControllerKey }
     requires keys { (driver.key ≡ keys.0) × (controller.key ≡ keys.1) }
     requires over { is_over driver.phase ≡ true }
-    requires of_line { AreOfLine pool.now line.now keys.0 keys.1 }
+    requires of_flow_rings { AreOfRings pool.now flow_rings.now keys.0 keys.1 }
     requires pool { IsOf pool.now pass.old }
     ensures report { IsReport (plan_of keys.0 keys.1) result }
     ensures driven { driven_in result ≡ driven driver.entry.counts }
@@ -35,30 +35,35 @@ fn conclude_flow(
         unreachable!()
     };
     pass.join(pool, own);
-    conclude(&line.from, &line.to, done, controller.into_done())
+    conclude(
+        &flow_rings.from,
+        &flow_rings.to,
+        done,
+        controller.into_done(),
+    )
 }
 
 /// Makes the reports of all flows, in room allocated before.
 pub(crate) fn conclude_all(
-    lines: &[Line],
+    rings: &[FlowRings],
     drivers: Vec<DriverFlow<'_>>,
     controllers: Vec<ControllerFlow<'_>>,
     pool: &Pool,
     pass: &mut PoolPass,
     mut reports: Vec<FlowReport>,
 ) -> Vec<FlowReport>
-    requires flows { (vec_len drivers ≡ length lines.now) × (vec_len controllers ≡ length lines.now) }
+    requires flows { (vec_len drivers ≡ length rings.now) × (vec_len controllers ≡ length rings.now) }
     requires over { All (λ f. is_over f.phase ≡ true) drivers.items }
-    requires lines { AreOfLines pool.now (length lines.now) lines.now (map (λ f. f.key) drivers.items) (map (λ f. f.key) controllers.items) }
+    requires rings { AreOfAllRings pool.now (length rings.now) rings.now (map (λ f. f.key) drivers.items) (map (λ f. f.key) controllers.items) }
     requires pool { IsOf pool.now pass.old }
     requires none { reports.items ≡ [] }
-    requires room { length lines.now ≤ vec_capacity reports }
-    ensures flows { vec_len result ≡ length lines.now }
-    ensures reports { AreReports (length lines.now) (map (λ f. f.key) drivers.entry.items) (map (λ f. f.key) controllers.entry.items) result.items }
+    requires room { length rings.now ≤ vec_capacity reports }
+    ensures flows { vec_len result ≡ length rings.now }
+    ensures reports { AreReports (length rings.now) (map (λ f. f.key) drivers.entry.items) (map (λ f. f.key) controllers.entry.items) result.items }
     ensures driven { map driven_in result.items ≡ map (λ f. driven f.counts) drivers.entry.items }
     ensures offered { map offered_in result.items ≡ map (λ f. offered f.tally) controllers.entry.items }
     ensures pool { IsOf pool.now pass.new }
-    ensures share { pass.new.hand.share ≡ pass.old.hand.share + length lines.now }
+    ensures share { pass.new.hand.share ≡ pass.old.hand.share + length rings.now }
     ensures held { pass.new.hand.held ≡ pass.old.hand.held }
 {
     let mut controllers = controllers.into_iter();
@@ -67,7 +72,7 @@ pub(crate) fn conclude_all(
         let Some(controller) = controllers.next() else {
             unreachable!()
         };
-        let report = conclude_flow(&lines[number], driver, controller, pool, pass);
+        let report = conclude_flow(&rings[number], driver, controller, pool, pass);
         reports.push_reserved(report);
         number += 1;
     }

@@ -1,6 +1,6 @@
 //! Returning the buffers of a closed ring.
 ghost use Rattle.std.specs.Prelude.{◌≡◌, IfSome};
-ghost use Rattle.lending.specs.Lent.{GivenBack};
+ghost use Rattle.buffer_accounting.specs.Lent.{GivenBack};
 ghost use Rattle.pool.specs.Hands.{HoldsAll};
 ghost use Rattle.pool.specs.Owned.{IsOf};
 ghost use Rattle.shared_ring.specs.Meeting.{AllReal, IsReal, number_at, numbers_at};

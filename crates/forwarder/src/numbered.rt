@@ -1,24 +1,24 @@
 //! The numbers of a flow that a cell shows.
-use counters::{Driven, Moment, Offered};
+use counters::{Driven, Offered, Snapshot};
 use flows::{ControllerFlow, DriverFlow};
 use forwarding::Flow;
 
 /// A flow whose numbers are those of a moment.
-pub trait Numbered<T: Moment<N>, const N: usize>: Flow {
+pub trait Numbered<T: Snapshot<N>, const N: usize>: Flow {
     ghost use Rattle.std.specs.Prelude.{◌≡◌, ◌↔◌, IsTrue};
 
     /// The current numbers.
-    fn moment(&self) -> T
+    fn snapshot(&self) -> T
         ensures value { T.words result ≡ Self.numbers self.now }
         ensures lawful { T.lawful result };
 
-    /// Whether the current numbers equal those of `moment`.
-    fn shows(&self, moment: T) -> bool
-        ensures { IsTrue result ↔ (T.words moment ≡ Self.numbers self.now) };
+    /// Whether the current numbers equal those of `snapshot`.
+    fn shows(&self, snapshot: T) -> bool
+        ensures { IsTrue result ↔ (T.words snapshot ≡ Self.numbers self.now) };
 }
 
 impl<'a> Numbered<Driven, 3> for DriverFlow<'a> {
-    fn moment(&self) -> Driven {
+    fn snapshot(&self) -> Driven {
         let counts = self.counts();
         Driven {
             taken: counts.taken,
@@ -27,13 +27,13 @@ impl<'a> Numbered<Driven, 3> for DriverFlow<'a> {
         }
     }
 
-    fn shows(&self, moment: Driven) -> bool {
-        self.moment() == moment
+    fn shows(&self, snapshot: Driven) -> bool {
+        self.snapshot() == snapshot
     }
 }
 
 impl<'a> Numbered<Offered, 4> for ControllerFlow<'a> {
-    fn moment(&self) -> Offered {
+    fn snapshot(&self) -> Offered {
         let tally = self.tally();
         Offered {
             offered: tally.offered,
@@ -43,7 +43,7 @@ impl<'a> Numbered<Offered, 4> for ControllerFlow<'a> {
         }
     }
 
-    fn shows(&self, moment: Offered) -> bool {
-        self.moment() == moment
+    fn shows(&self, snapshot: Offered) -> bool {
+        self.snapshot() == snapshot
     }
 }

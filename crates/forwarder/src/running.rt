@@ -11,17 +11,17 @@ ghost use Rattle.pool.specs.Owned.{IsOf};
 ghost use Rattle.flows.specs.Reports.{IsReport};
 ghost use Rattle.refusals.specs.declared.errors.ForwardError.TheVariants.{Memory};
 ghost use Rattle.settings.specs.Configs.{IsLawful};
-ghost use Rattle.forwarder.specs.Lines.{AreReady};
+ghost use Rattle.forwarder.specs.Rings.{AreReady};
 ghost use Rattle.forwarder.specs.Plans.{plan};
-ghost use Rattle.forwarder.specs.Shown.{ShowReports};
+ghost use Rattle.forwarder.specs.ShownCounts.{ShowReports};
 ghost use Rattle.forwarder.specs.Stopped.{IsStopped};
 ghost use Rattle.teams.specs.Refusals.{Halted};
-ghost use Rattle.forwarder.specs.Watching.{ArePensOf, driven_shown, offered_shown};
+ghost use Rattle.forwarder.specs.LiveStatistics.{ArePensOf, driven_shown, offered_shown};
 
 use crate::concluding::conclude_all;
+use crate::flow_rings::{FlowRingEnds, FlowRings};
 use crate::index::Index;
-use crate::lines::{Line, LineEnds};
-use crate::serving::{Shown, serve_watched};
+use crate::serving::{ServedWithPens, serve_watched};
 use crate::sides::{Sides, make_sides};
 use crate::stopping::{Stopped, stop_all};
 use counters::{FlowCells, FlowPens};
@@ -78,7 +78,7 @@ fn serve_sides<'a, R: Threads + Wait + Sync, G: Gate + Sync>(
     sides: Sides<'a>,
     workers: usize,
     watch: Option<Watch<'a>>,
-) -> Shown<'a>
+) -> ServedWithPens<'a>
     requires some { 0 < workers }
     requires flows { ForSome watch (λ w. (vec_len sides.drivers ≡ length w.cells.now) × (vec_len sides.controllers ≡ length w.cells.now)) }
     requires pens { ForSome watch (λ w. ArePaired w.cells.now w.pens.items) }
@@ -95,7 +95,7 @@ fn serve_sides<'a, R: Threads + Wait + Sync, G: Gate + Sync>(
     let Some(watch) = watch else {
         let served = serve_flows(rt, alloc, gate, sides.drivers, sides.controllers, workers);
         let pens = Vec::new(alloc);
-        return Shown { served, pens };
+        return ServedWithPens { served, pens };
     };
     serve_watched(
         rt,
@@ -116,14 +116,14 @@ pub(crate) fn run_flows<R: Threads + Wait + Sync, G: Gate + Sync>(
     alloc: Global,
     job: Job<'_, G>,
     index: &Index,
-    lines: &[Line],
-    ends: Vec<LineEnds>,
+    rings: &[FlowRings],
+    ends: Vec<FlowRingEnds>,
     pool: &Pool,
     pass: &mut PoolPass,
     watch: Option<Watch<'_>>,
 ) -> Result<Ran, ForwardError>
     requires lawful { IsLawful job.config.now }
-    requires ready { AreReady job.config.now job.script.now index.now lines.now ends.items }
+    requires ready { AreReady job.config.now job.script.now index.now rings.now ends.items }
     requires pool { IsOf pool.now pass.old }
     requires share { PORTS * MOST_PAIRS < pass.old.hand.share }
     requires cells { ForSome watch (λ w. length w.cells.now ≡ PORTS * job.config.now.pairs) }
@@ -133,10 +133,10 @@ pub(crate) fn run_flows<R: Threads + Wait + Sync, G: Gate + Sync>(
     ensures flows { IfOk result (λ r. r.refusal ≡ None → vec_len r.flows ≡ PORTS * job.entry.config.now.pairs) }
     ensures reports { IfOk result (λ r. r.refusal ≡ None → (flow : ℕ) (d : _) → flow < PORTS * job.entry.config.now.pairs → IsReport (plan job.entry.config.now job.entry.script.now flow) (slice_index_or r.flows.items flow d)) }
     ensures shown { IfOk result (λ r. r.refusal ≡ None → IfSome watch.entry (λ w. ShowReports w.cells.now r.pens.items r.flows.items)) }
-    ensures stopped { IfOk result (λ r. IsSome r.refusal → (vec_len r.stopped ≡ length lines.now) × AllZip (IsStopped pool.now) lines.now r.stopped.items) }
+    ensures stopped { IfOk result (λ r. IsSome r.refusal → (vec_len r.stopped ≡ length rings.now) × AllZip (IsStopped pool.now) rings.now r.stopped.items) }
     ensures pool { IsOf pool.now pass.new }
     ensures refused_share { IfErr result (λ _. pass.new.hand.share ≡ pass.old.hand.share) }
-    ensures stopped_share { IfOk result (λ r. IsSome r.refusal → pass.new.hand.share + length lines.now ≡ pass.old.hand.share) }
+    ensures stopped_share { IfOk result (λ r. IsSome r.refusal → pass.new.hand.share + length rings.now ≡ pass.old.hand.share) }
     ensures share { IfOk result (λ r. r.refusal ≡ None → pass.new.hand.share ≡ pass.old.hand.share) }
     ensures held { pass.new.hand.held ≡ pass.old.hand.held }
 {
@@ -145,17 +145,17 @@ pub(crate) fn run_flows<R: Threads + Wait + Sync, G: Gate + Sync>(
         config,
         gate,
     } = job;
-    let (reports, rooms) = make_rooms(alloc, lines.len())?;
-    let sides = make_sides(rt, alloc, config, script, index, lines, ends, pool, pass)?;
+    let (reports, rooms) = make_rooms(alloc, rings.len())?;
+    let sides = make_sides(rt, alloc, config, script, index, rings, ends, pool, pass)?;
     let workers = config.workers as usize;
     let shown = serve_sides(rt, alloc, gate, sides, workers, watch);
     let (served, pens) = (shown.served, shown.pens);
     let refusal = served.refusal;
     let (drivers, controllers) = (served.drivers, served.controllers);
     let (flows, stopped) = if refusal.is_some() {
-        (reports, stop_all(pool, lines, drivers, controllers, rooms))
+        (reports, stop_all(pool, rings, drivers, controllers, rooms))
     } else {
-        let flows = conclude_all(lines, drivers, controllers, pool, pass, reports);
+        let flows = conclude_all(rings, drivers, controllers, pool, pass, reports);
         (flows, rooms)
     };
     Ok(Ran {

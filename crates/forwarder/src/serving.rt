@@ -5,7 +5,7 @@ ghost use Rattle.counters.specs.Paired.{ArePaired};
 ghost use Rattle.flows.specs.Counting.{driven, none, offered};
 ghost use Rattle.flows.specs.Driven.{is_over};
 ghost use Rattle.teams.specs.Refusals.{Halted};
-ghost use Rattle.forwarder.specs.Watching.{ArePensOf, driven_shown, offered_shown};
+ghost use Rattle.forwarder.specs.LiveStatistics.{ArePensOf, driven_shown, offered_shown};
 
 use crate::wrapping::{Unwrapped, Wrapped, unwrap_all, wrap_all};
 use counters::{FlowCells, FlowPens};
@@ -17,7 +17,7 @@ use std::thread::Threads;
 
 /// Both sides of all flows, with their pens.
 #[derive(Drop)]
-pub struct Shown<'a> {
+pub struct ServedWithPens<'a> {
     /// Both sides as they came back.
     pub served: Served<DriverFlow<'a>, ControllerFlow<'a>>,
     /// The pens that showed their numbers, in the order of the flows.
@@ -36,7 +36,7 @@ pub fn serve_watched<'a, R: Threads + Wait + Sync, G: Gate + Sync>(
     cells: &'a [FlowCells],
     pens: Vec<FlowPens>,
     workers: usize,
-) -> Shown<'a>
+) -> ServedWithPens<'a>
     requires some { 0 < workers }
     requires flows { (vec_len drivers ≡ length cells.now) × (vec_len controllers ≡ length cells.now) }
     requires pens { ArePaired cells.now pens.items }
@@ -54,7 +54,7 @@ pub fn serve_watched<'a, R: Threads + Wait + Sync, G: Gate + Sync>(
     let (Ok(rooms), Ok(back)) = (Wrapped::rooms(alloc, count), Unwrapped::rooms(alloc, count))
     else {
         let refusal = Some(ForwardError::Memory);
-        return Shown {
+        return ServedWithPens {
             served: Served {
                 drivers,
                 controllers,
@@ -66,7 +66,7 @@ pub fn serve_watched<'a, R: Threads + Wait + Sync, G: Gate + Sync>(
     let flows = wrap_all(drivers, controllers, cells, pens, rooms);
     let served = serve_flows(rt, alloc, gate, flows.drivers, flows.controllers, workers);
     let back = unwrap_all(served.drivers, served.controllers, back);
-    Shown {
+    ServedWithPens {
         served: Served {
             drivers: back.drivers,
             controllers: back.controllers,

@@ -7,11 +7,11 @@ ghost use Rattle.refusals.specs.declared.errors.ForwardError.TheVariants.{Memory
 ghost use Rattle.pool.specs.Owned.{IsOf};
 ghost use Rattle.settings.specs.Configs.{IsLawful};
 ghost use Rattle.forwarder.specs.Flows.{places_of};
-ghost use Rattle.forwarder.specs.Lines.{AreEnds, AreReady};
+ghost use Rattle.forwarder.specs.Rings.{AreEnds, AreReady};
 ghost use Rattle.forwarder.specs.Plans.{AreSides, AreAllSides, plan};
 
+use crate::flow_rings::{FlowRingEnds, FlowRings};
 use crate::index::Index;
-use crate::lines::{Line, LineEnds};
 use crate::starting::start_flow;
 use flows::{ControllerFlow, DriverFlow};
 use forwarding::ForwardError;
@@ -23,7 +23,7 @@ use wire_script::Script;
 
 /// Both sides of one flow.
 #[derive(Drop)]
-struct Side<'a> {
+struct FlowSides<'a> {
     driver: DriverFlow<'a>,
     controller: ControllerFlow<'a>,
 }
@@ -43,17 +43,17 @@ fn make_side<'a, R: Wait>(
     number: usize,
     script: &'a Script,
     places: &'a [u32],
-    line: &'a Line,
-    ends: LineEnds,
+    flow_rings: &'a FlowRings,
+    ends: FlowRingEnds,
     pool: &'a Pool,
     pass: &mut PoolPass,
-) -> Side<'a>
+) -> FlowSides<'a>
     requires lawful { IsLawful config.now }
     requires places { places.now ≡ places_of config.now.pairs number script.now }
-    requires ends { AreEnds config.now.ring config.now.completion line.now ends }
+    requires ends { AreEnds config.now.ring config.now.completion flow_rings.now ends }
     requires pool { IsOf pool.now pass.old }
     requires share { 1 < pass.old.hand.share }
-    ensures sides { AreSides (plan config.now script.entry.now number) pool.entry.now line.entry.now result.driver.key result.controller.key }
+    ensures sides { AreSides (plan config.now script.entry.now number) pool.entry.now flow_rings.entry.now result.driver.key result.controller.key }
     ensures counts { result.driver.counts ≡ none }
     ensures tally { result.controller.tally ≡ nothing }
     ensures pool { IsOf pool.entry.now pass.new }
@@ -61,17 +61,17 @@ fn make_side<'a, R: Wait>(
     ensures held { pass.new.hand.held ≡ pass.old.hand.held }
 {
     let takes = (ends.takes, ends.posts);
-    let driver = start_flow(rt, config, number, line, takes, pool, pass);
+    let driver = start_flow(rt, config, number, flow_rings, takes, pool, pass);
     let controller = ControllerFlow::new(
         alloc,
         number,
-        (&line.from, &line.to),
+        (&flow_rings.from, &flow_rings.to),
         (ends.stores, ends.sends),
         (script.frames(), places),
         config.bsize as usize,
         config.drop_en,
     );
-    Side { driver, controller }
+    FlowSides { driver, controller }
 }
 
 /// Makes both sides of each flow.
@@ -81,26 +81,26 @@ pub(crate) fn make_sides<'a, R: Wait>(
     config: &Config,
     script: &'a Script,
     index: &'a Index,
-    lines: &'a [Line],
-    ends: Vec<LineEnds>,
+    rings: &'a [FlowRings],
+    ends: Vec<FlowRingEnds>,
     pool: &'a Pool,
     pass: &mut PoolPass,
 ) -> Result<Sides<'a>, ForwardError>
     requires lawful { IsLawful config.now }
-    requires ready { AreReady config.now script.now index.now lines.now ends.items }
+    requires ready { AreReady config.now script.now index.now rings.now ends.items }
     requires pool { IsOf pool.now pass.old }
     requires share { PORTS * MOST_PAIRS < pass.old.hand.share }
     ensures refused { IfErr result (λ e. e ≡ Memory) }
     ensures flows { IfOk result (λ s. (vec_len s.drivers ≡ PORTS * config.now.pairs) × (vec_len s.controllers ≡ PORTS * config.now.pairs)) }
-    ensures sides { IfOk result (λ s. AreAllSides (plan config.now script.entry.now) pool.entry.now (PORTS * config.now.pairs) lines.entry.now (map (λ f. f.key) s.drivers.items) (map (λ f. f.key) s.controllers.items)) }
+    ensures sides { IfOk result (λ s. AreAllSides (plan config.now script.entry.now) pool.entry.now (PORTS * config.now.pairs) rings.entry.now (map (λ f. f.key) s.drivers.items) (map (λ f. f.key) s.controllers.items)) }
     ensures counts { IfOk result (λ s. All (λ f. f.counts ≡ none) s.drivers.items) }
     ensures tallies { IfOk result (λ s. All (λ f. f.tally ≡ nothing) s.controllers.items) }
     ensures pool { IsOf pool.entry.now pass.new }
     ensures share { MatchResult result (λ _. pass.new.hand.share + PORTS * config.now.pairs ≡ pass.old.hand.share) (λ _. pass.new.hand.share ≡ pass.old.hand.share) }
     ensures held { pass.new.hand.held ≡ pass.old.hand.held }
 {
-    let mut drivers = Vec::with_capacity(alloc, lines.len())?;
-    let mut controllers = Vec::with_capacity(alloc, lines.len())?;
+    let mut drivers = Vec::with_capacity(alloc, rings.len())?;
+    let mut controllers = Vec::with_capacity(alloc, rings.len())?;
     let mut number = 0;
     for own in ends {
         let places = index.places(number);
@@ -111,7 +111,7 @@ pub(crate) fn make_sides<'a, R: Wait>(
             number,
             script,
             places,
-            &lines[number],
+            &rings[number],
             own,
             pool,
             pass,

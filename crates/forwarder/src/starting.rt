@@ -5,8 +5,8 @@ ghost use Rattle.pool.specs.Owned.{IsOf};
 ghost use Rattle.shared_ring.specs.Calls.{IsFreshDriver};
 ghost use Rattle.settings.specs.Configs.{IsLawful};
 
-use crate::lines::Line;
-use flows::{DriverFlow, Task};
+use crate::flow_rings::FlowRings;
+use flows::{DriverFlow, FlowSpec};
 use pool::{Pool, PoolPass};
 use rx_ring::RxDriverEnd;
 use settings::Config;
@@ -28,19 +28,19 @@ pub fn start_flow<'a, R: Wait>(
     rt: &R,
     config: &Config,
     number: usize,
-    line: &'a Line,
+    flow_rings: &'a FlowRings,
     ends: (RxDriverEnd, TxDriverEnd),
     pool: &'a Pool,
     pass: &mut PoolPass,
 ) -> DriverFlow<'a>
     requires lawful { IsLawful config.now }
-    requires from { ends.0.table ≡ line.now.from }
-    requires to { ends.1.table ≡ line.now.to }
-    requires one_length { line.now.to.slots ≡ line.now.from.slots }
+    requires from { ends.0.table ≡ flow_rings.now.from }
+    requires to { ends.1.table ≡ flow_rings.now.to }
+    requires one_length { flow_rings.now.to.slots ≡ flow_rings.now.from.slots }
     requires fresh { IsFreshDriver ends.0 × IsFreshDriver ends.1 }
     requires pool { IsOf pool.now pass.old }
     requires share { 1 < pass.old.hand.share }
-    ensures key { result.key ≡ record { number = number; from = line.entry.now.from; to = line.entry.now.to; pool = pool.entry.now; share = 1; retries = config.now.retry; turns = config.now.turns } }
+    ensures key { result.key ≡ record { number = number; from = flow_rings.entry.now.from; to = flow_rings.entry.now.to; pool = pool.entry.now; share = 1; retries = config.now.retry; turns = config.now.turns } }
     ensures counts { result.counts ≡ none }
     ensures pool { IsOf pool.entry.now pass.new }
     ensures share { pass.new.hand.share + 1 ≡ pass.old.hand.share }
@@ -49,10 +49,10 @@ pub fn start_flow<'a, R: Wait>(
     let share = config.buffers / (2 * config.pairs);
     let most = share.min(config.ring + STASHED) as usize;
     let own = pass.split(pool, SHARE);
-    let task = Task {
+    let flow_spec = FlowSpec {
         number,
-        from: &line.from,
-        to: &line.to,
+        from: &flow_rings.from,
+        to: &flow_rings.to,
         pool,
         share: SHARE as u64,
         retry: config.retry,
@@ -60,7 +60,7 @@ pub fn start_flow<'a, R: Wait>(
     };
     DriverFlow::start(
         rt,
-        task,
+        flow_spec,
         ends,
         own,
         most,

@@ -3,9 +3,9 @@ ghost use Rattle.std.specs.Prelude.{◌≡◌, ◌≤◌, All, [], IfOk, length,
 ghost use Rattle.controller.specs.Tallying.{nothing};
 ghost use Rattle.counters.specs.Paired.{ArePaired};
 ghost use Rattle.flows.specs.Counting.{driven, none, offered};
-ghost use Rattle.forwarder.specs.Watching.{driven_shown, offered_shown};
+ghost use Rattle.forwarder.specs.LiveStatistics.{driven_shown, offered_shown};
 
-use crate::watched::Watched;
+use crate::live_flow::LiveFlow;
 use counters::{Driven, FlowCells, FlowPens, Offered};
 use flows::{ControllerFlow, DriverFlow};
 use std::alloc::{AllocError, Global};
@@ -13,8 +13,8 @@ use std::alloc::{AllocError, Global};
 /// Both sides of all flows, each with its cell, in the order of the flows.
 #[derive(Drop)]
 pub(crate) struct Wrapped<'a> {
-    pub drivers: Vec<Watched<'a, DriverFlow<'a>, Driven, 3>>,
-    pub controllers: Vec<Watched<'a, ControllerFlow<'a>, Offered, 4>>,
+    pub drivers: Vec<LiveFlow<'a, DriverFlow<'a>, Driven, 3>>,
+    pub controllers: Vec<LiveFlow<'a, ControllerFlow<'a>, Offered, 4>>,
 }
 
 /// Both sides of all flows, and the pens that showed their numbers, in the order of the flows.
@@ -92,10 +92,10 @@ pub(crate) fn wrap_all<'a>(
         let cell = &cells[number];
         rooms
             .drivers
-            .push_reserved(Watched::new(driver, &cell.drive, own.drive));
+            .push_reserved(LiveFlow::new(driver, &cell.drive, own.drive));
         rooms
             .controllers
-            .push_reserved(Watched::new(controller, &cell.stat, own.stat));
+            .push_reserved(LiveFlow::new(controller, &cell.stat, own.stat));
         number += 1;
     }
     rooms
@@ -103,8 +103,8 @@ pub(crate) fn wrap_all<'a>(
 
 /// Separates both sides of each flow from their cells, in room allocated before.
 pub(crate) fn unwrap_all<'a>(
-    drivers: Vec<Watched<'a, DriverFlow<'a>, Driven, 3>>,
-    controllers: Vec<Watched<'a, ControllerFlow<'a>, Offered, 4>>,
+    drivers: Vec<LiveFlow<'a, DriverFlow<'a>, Driven, 3>>,
+    controllers: Vec<LiveFlow<'a, ControllerFlow<'a>, Offered, 4>>,
     mut room: Unwrapped<'a>,
 ) -> Unwrapped<'a>
     requires flows { vec_len controllers ≡ vec_len drivers }

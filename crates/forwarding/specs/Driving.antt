@@ -1,5 +1,5 @@
 -- A driver's turn for one flow.
-use Rattle.std.specs.Prelude.{◌≡◌, ℕ, ◌+◌, ◌⊎◌, true, All, List, ◌++◌, length, map, take}
+use Rattle.std.specs.Prelude.{◌≡◌, ℕ, ◌+◌, ◌⊎◌, Bool, true, false, All, List, ◌++◌, length, map, take}
 use Rattle.atomic_table.specs.Seated.{TableId}
 use Rattle.buffer_pool.specs.Buffer.{Buffer}
 use Rattle.buffer_pool.specs.Packed.{bytes_of}
@@ -16,7 +16,19 @@ use Rattle.driver.specs.receive.Batches as received
 use Rattle.driver.specs.receive.Batches.{IsFilled}
 use Rattle.driver.specs.transmit.Transmitter.{Transmitter, sending}
 use Rattle.driver.specs.transmit.Batches as sent
+use Rattle.teams.specs.declared.gate.Who.{Who}
+use Rattle.teams.specs.declared.gate.Who.TheVariants.{Driver}
+use Rattle.teams.specs.declared.gate.Event.{Event}
+use Rattle.teams.specs.declared.gate.Event.TheVariants.{RxBatch, TxBatch}
 use Rattle.forwarding.specs.Touching.{touch, TouchedFrom}
+
+-- the gate allowed both batches of this flow's driver
+abbrev pub BothAllowed : {G : Type 0} → (G → Who → Event → Bool → Type 0) → G → ℕ → Type 0
+BothAllowed answers gate flow = answers gate (Driver flow) RxBatch true × answers gate (Driver flow) TxBatch true
+
+-- the gate refused one of them
+abbrev pub OneRefused : {G : Type 0} → (G → Who → Event → Bool → Type 0) → G → ℕ → Type 0
+OneRefused answers gate flow = answers gate (Driver flow) RxBatch false ⊎ answers gate (Driver flow) TxBatch false
 
 -- both drivers of a flow, the stash at hand, and the packets that were taken and wait
 pub record Driving : Type 0 where

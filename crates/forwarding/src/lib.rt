@@ -1,6 +1,7 @@
 //! Forwarding frames from one queue to another, in one thread.
-//! Depends on `driver`, `controller`, `rx_ring`, `tx_ring`, `buffer_pool`, `teams`, `refusals` and `arrayvec`.
-//! The contract of [`drive`] states which packets a turn took, changed and posted.
+//! Depends on `driver`, `controller`, `rx_ring`, `tx_ring`, `buffer_pool`, `teams`, `limits`, `refusals` and
+//! `arrayvec`.
+//! Guarantees which packets a turn ([`drive`]) took, changed and posted.
 //!
 //! [`drive`] is a driver's turn for one flow: it takes a batch of packets, touches each of them, and posts the packets
 //! that wait. It passes a [`Gate`] before each call that makes steps.

@@ -1,11 +1,11 @@
 //! A driver's turn for one flow: it touches the packets that it takes and sends them on.
-ghost use Rattle.std.specs.Prelude.{◌≡◌, ◌≤◌, true, All, length, IfErr, OnErr, IfOk};
+ghost use Rattle.std.specs.Prelude.{◌≡◌, ◌≤◌, true, All, length, IfErr, OnErr, IfOk, OnOk};
 ghost use Rattle.ring_model.specs.shared.Handshakes.{is_live};
 ghost use Rattle.rx_ring.specs.Ends as receive;
 ghost use Rattle.limits.specs.declared.profile.TheConstants.{MOST_BATCH};
 ghost use Rattle.driver.specs.receive.Chains.{IsTaken};
 ghost use Rattle.teams.specs.declared.gate.Who.TheVariants as who;
-ghost use Rattle.forwarding.specs.Driving.{CanDrive, Counted, Drove, HeldBack, Moved, Received, driving};
+ghost use Rattle.forwarding.specs.Driving.{BothAllowed, CanDrive, Counted, Drove, HeldBack, Moved, OneRefused, Received, driving};
 ghost use Rattle.teams.specs.Gates.{MayRefuse};
 
 use crate::packets::touch_from;
@@ -48,6 +48,8 @@ pub fn drive<G: Gate>(
     ensures steps { IfOk result (λ t. Drove t.taken t.posted (driving rx.old tx.old stash.old packets.old.items) (driving rx.new tx.new stash.new packets.new.items)) }
     ensures counted { IfOk result (λ t. Counted t.taken t.posted (driving rx.old tx.old stash.old packets.old.items) (driving rx.new tx.new stash.new packets.new.items)) }
     ensures few { IfOk result (λ t. (t.taken ≤ MOST_BATCH) × (t.posted ≤ MOST_BATCH)) }
+    ensures allowed { OnOk result (BothAllowed G.answers gate.now flow) }
+    ensures one_refused { OnErr result (OneRefused G.answers gate.now flow) }
     ensures refusal { IfErr result (λ e. (e ≡ ForwardError.Gate) × MayRefuse G.answers gate.now (who.Driver flow)) }
     ensures refused { OnErr result (HeldBack (driving rx.old tx.old stash.old packets.old.items) (driving rx.new tx.new stash.new packets.new.items)) }
 {

@@ -1,6 +1,7 @@
 //! The limits of this project's profile of the 82599, each named once.
-//! Depends on no crate; every other crate takes its limits from here.
-//! The value of each limit is proved beside it, so a change takes two lines: the constant and its `prove!`.
+//! Depends on no crate.
+//! Guarantees the value of each limit, which is proved beside it: a change takes two lines, the constant and its
+//! `prove!`.
 //!
 //! [`is_ring_length`] tests the number of descriptors of a ring, and [`is_fill_size`] the number of bytes to which buffers
 //! are filled.

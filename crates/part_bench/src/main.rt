@@ -1,4 +1,6 @@
 //! The program `part_bench`: the cost of parts other than the rings. Scripts in `bench/` compare it with plain Rust.
+//! Depends on the measured crates, `part_tests` and `anyhow`.
+//! Guarantees nothing.
 //!
 //! With `--writes` one thread writes a counter cell, while `--readers` threads read it until they see the last write.
 //! The time is that of all threads. With `--reads` one thread reads a cell without a writer.

@@ -1,5 +1,8 @@
 -- Texts that are written one after another.
 use Rattle.std.proofs.Common.{◌≡◌, ◌∙◌, List, ℕ, ◌++◌, ap, append_assoc}
+use Rattle.std.specs.Prelude.{codes}
+use Rattle.ring_model.specs.shared.Agreement.{Wrapped}
+use Rattle.pictures.specs.States.{queue_members}
 
 pub two : (old t1 t2 a b : List ℕ) → t1 ≡ old ++ a → t2 ≡ t1 ++ b → t2 ≡ old ++ (a ++ b)
 two old t1 t2 a b first second = second ∙ ap (λ (t : List ℕ). t ++ b) first ∙ append_assoc old a b
@@ -18,3 +21,13 @@ pub six : (old t1 t2 t3 t4 t5 t6 a b c d e f : List ℕ) → t1 ≡ old ++ a →
     → t6 ≡ old ++ (a ++ (b ++ (c ++ (d ++ (e ++ f)))))
 six old t1 t2 t3 t4 t5 t6 a b c d e f first second third fourth fifth sixth =
     two old t1 t6 a (b ++ (c ++ (d ++ (e ++ f)))) first (five t1 t2 t3 t4 t5 t6 b c d e f second third fourth fifth sixth)
+
+-- the members of a queue, as it is read
+pub of_queue : (members : Wrapped ℕ → List ℕ) (read queue : Wrapped ℕ) (old new : List ℕ) → read ≡ queue → new ≡ old ++ members read → new ≡ old ++ members queue
+of_queue members read queue old new same is = is ∙ ap (λ (w : Wrapped ℕ). old ++ members w) same
+
+-- the line of a queue: its name with its size, its state and the end of the line
+pub line-written : (letter : List ℕ) (number read size : ℕ) (state old t1 t2 t3 : List ℕ) → read ≡ size → t1 ≡ old ++ queue_members letter number read → t2 ≡ t1 ++ state
+    → t3 ≡ t2 ++ codes "}\n" → t3 ≡ old ++ (queue_members letter number size ++ (state ++ codes "}\n"))
+line-written letter number read size state old t1 t2 t3 same named stated ended =
+    three old t1 t2 t3 (queue_members letter number size) state (codes "}\n") (named ∙ ap (λ (n : ℕ). old ++ queue_members letter number n) same) stated ended

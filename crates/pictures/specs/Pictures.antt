@@ -28,9 +28,13 @@ item_of Driver age = None
 item_of Ring age = Some age
 item_of Controller age = Some age
 
+-- a number, or a text for none
+abbrev pub number_or : List ℕ → Option ℕ → List ℕ
+number_or otherwise None = otherwise
+number_or otherwise (Some n) = decimal n
+
 abbrev pub number_or_dash : Option ℕ → List ℕ
-number_or_dash None = codes "-"
-number_or_dash (Some n) = decimal n
+number_or_dash n = number_or (codes "-") n
 
 -- whether a bit of a word is set, which is the word's part of that weight
 abbrev pub has_bit : ℕ → ℕ → Bool

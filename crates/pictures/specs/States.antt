@@ -26,11 +26,10 @@ use Rattle.ring_machine.specs.shared.Machine.{told_owner}
 use Rattle.ring_machine.specs.text.Moves.{text_of}
 use Rattle.ring_machine.specs.transmit.Machine.{TxParts}
 use Rattle.ring_machine.specs.Queues.{QueueParts}
-use Rattle.pictures.specs.Pictures.{owner_word, place_before}
+use Rattle.pictures.specs.Pictures.{number_or, owner_word, place_before}
 
 abbrev pub number_or_null : Option ℕ → List ℕ
-number_or_null None = codes "null"
-number_or_null (Some n) = decimal n
+number_or_null n = number_or (codes "null") n
 
 -- ---- a place
 

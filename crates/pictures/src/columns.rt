@@ -2,24 +2,24 @@
 ghost use Rattle.std.specs.Prelude.{◌≡◌, ◌++◌, ◌<◌, OnOk, Some};
 ghost use Rattle.std.specs.String.{string_bytes};
 ghost use Rattle.ring_machine.specs.declared.registers.Side.TheVariants.{Receive, Transmit};
-ghost use Rattle.pictures.specs.Pictures.{age_at, columns, flag_words, item_of, line, mark, marks, number_or_dash, owner_word, says_done, says_eop, says_rs, word_words};
+ghost use Rattle.pictures.specs.Pictures.{age_at, columns, flag_words, item_of, line, mark, marks, number_or, owner_word, says_done, says_eop, says_rs, word_words};
 
 use ring_machine::{QueueMachine, Registers, Side};
 use ring_model::{Owner, places_between};
 use std::alloc::AllocError;
 use std::fmt;
 
-// A number, or a dash for `None`.
+/// A number, or this text for `None`.
 #[derive(Clone, Copy)]
-struct OrDash(Option<u16>);
+pub(crate) struct NumberOr(pub(crate) Option<u16>, pub(crate) &'static str);
 
-impl fmt::Display for OrDash {
-    ghost output = { λ d. Some (number_or_dash d.0) };
+impl fmt::Display for NumberOr {
+    ghost output = { λ d. Some (number_or d.1.now d.0) };
 
     fn fmt<W: fmt::Write>(&self, f: &mut fmt::Formatter<W>) -> fmt::Result {
         match self.0 {
             Some(number) => write!(f, "{number}"),
-            None => f.write_str("-"),
+            None => f.write_str(self.1),
         }
     }
 }
@@ -108,9 +108,9 @@ fn write_columns(text: &mut String, machine: &QueueMachine, spot: Spot) -> Resul
 {
     let Spot { side, place } = spot;
     let owner = machine.owner(place);
-    let item = OrDash(item_of(owner, age_of(machine, place)));
+    let item = NumberOr(item_of(owner, age_of(machine, place)), "-");
     let word = word_words(side, owner, machine.word(place));
-    let buffer = OrDash(machine.slot(place));
+    let buffer = NumberOr(machine.slot(place), "-");
     let owner = owner_word(owner);
     write!(text, "{place}\t{item}\t{owner}\t{word}\t{buffer}")
 }

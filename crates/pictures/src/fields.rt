@@ -1,29 +1,13 @@
 //! A place as a JSON object, with the fields of its descriptor by name.
 ghost use Rattle.std.specs.Prelude.{◌≡◌, ◌++◌, ◌<◌, IfSome, OnOk, Some};
 ghost use Rattle.std.specs.String.{string_bytes};
-ghost use Rattle.pictures.specs.States.{descriptor_fields, number_or_null, place_members, place_object, receive_fields, rx_spot, spot_object, transmit_fields, tx_spot};
+ghost use Rattle.pictures.specs.States.{descriptor_fields, place_members, place_object, receive_fields, rx_spot, spot_object, transmit_fields, tx_spot};
 
-use crate::columns::{Spot, owner_word};
+use crate::columns::{NumberOr, Spot, owner_word};
 use crate::picture::place_before;
 use ring_machine::{QueueMachine, SegmentDescriptor, SegmentLength, Side};
 use ring_model::{Owner, RxStep, TxStep};
 use std::alloc::AllocError;
-use std::fmt;
-
-/// A number, or `null`.
-#[derive(Clone, Copy)]
-pub(crate) struct OrNull(pub(crate) Option<u16>);
-
-impl fmt::Display for OrNull {
-    ghost output = { λ d. Some (number_or_null d.0) };
-
-    fn fmt<W: fmt::Write>(&self, f: &mut fmt::Formatter<W>) -> fmt::Result {
-        match self.0 {
-            Some(number) => write!(f, "{number}"),
-            None => f.write_str("null"),
-        }
-    }
-}
 
 // Writes the fields of a receive write-back (82599 datasheet, 7.1.6.2).
 fn write_receive_fields(text: &mut String, word: u64) -> Result<(), AllocError>
@@ -73,7 +57,7 @@ fn write_place_members(
     ensures { OnOk result (string_bytes text.new ≡ string_bytes text.old ++ place_members machine.now place) }
 {
     let owner = owner_word(machine.owner(place));
-    let buffer = OrNull(machine.slot(place));
+    let buffer = NumberOr(machine.slot(place), "null");
     write!(
         text,
         "{{\"place\":{place},\"owner\":\"{owner}\",\"buffer\":{buffer},\"descriptor\":"

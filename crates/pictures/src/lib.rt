@@ -1,7 +1,9 @@
-//! Pictures of a queue's machine, like that in `docs/MODEL.md`, as lines of text: one for each place, with its owner.
-//! The same as JSON objects: the queues before the first move, and the state of a move's queue after it. [`NoteMembers`]
-//! prints a note as members of such an object.
-//! Depends on `ring_machine`, `ring_model` and `limits`. The contracts give the exact text.
+//! Pictures of a queue's machine, as lines of text like those in `docs/MODEL.md` and as JSON objects: a line or an
+//! object for each place, with its owner.
+//! Depends on `ring_machine`, `ring_model` and `limits`.
+//! Guarantees the exact text.
+//!
+//! [`NoteMembers`] prints a step's note as members of such an object.
 #![tactic(auto)]
 
 mod columns;

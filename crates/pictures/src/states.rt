@@ -3,7 +3,7 @@ ghost use Rattle.std.specs.Prelude.{◌≡◌, ◌++◌, OnOk};
 ghost use Rattle.std.specs.String.{string_bytes};
 ghost use Rattle.pictures.specs.States.{controller_members, controller_word, driver_members, driver_word, due_member, head_member, head_word, quiet_member, quiet_word, reported_members, rx_state, tx_state, words_members};
 
-use crate::fields::OrNull;
+use crate::columns::NumberOr;
 use ring_machine::{QueueMachine, Registers, RxMachine, Side, TxMachine};
 use ring_model::{ControllerState, DriverState, Handshake};
 use std::alloc::AllocError;
@@ -60,7 +60,7 @@ fn write_controller(text: &mut String, machine: &QueueMachine) -> Result<(), All
     let handshake = machine.handshake();
     let state = controller_word(handshake.controller);
     let (place, known) = (machine.serve_place(), machine.known());
-    let held = OrNull(machine.held());
+    let held = NumberOr(machine.held(), "null");
     let loaded = handshake.seen;
     let in_frame = u8::from(!machine.is_whole());
     write!(
@@ -112,7 +112,7 @@ fn head_word(machine: &TxMachine) -> Option<u16>
 fn write_head_word(text: &mut String, machine: &TxMachine) -> Result<(), AllocError>
     ensures { OnOk result (string_bytes text.new ≡ string_bytes text.old ++ head_member machine.now) }
 {
-    let head = OrNull(head_word(machine));
+    let head = NumberOr(head_word(machine), "null");
     write!(text, ",\"head_word\":{head}")
 }
 

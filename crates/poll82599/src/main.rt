@@ -1,4 +1,6 @@
 //! The program `poll82599`: both sides of the 82599's descriptor rings, in one process.
+//! Depends on `program` and `requests`.
+//! Guarantees what `program::run` guarantees, which it calls.
 //!
 //! `main` passes the words and the three standard streams to `program::run`, standard error a second time for the
 //! progress of a run, and exits with the status that it returns. `command_line` parses the words, and `program` runs
@@ -8,7 +10,7 @@
 mod pipe;
 
 use pipe::{Faults, GONE, Output};
-use program::{MISUSED, run};
+use program::{EXIT_USAGE, run};
 use requests::{Refusal, refuse};
 use std::cell::Cell;
 use std::io::{ErrorKind, IsTerminal, Write};
@@ -25,7 +27,7 @@ fn words_of<R: Env + AllocGlobal>(rt: &R) -> io::Result<Vec<String>> {
 fn refuse_words<E: Write>(faults: &mut E, kind: ErrorKind) -> u8 {
     if kind == ErrorKind::InvalidData {
         let _ = faults.write_all(b"error: an argument is not valid UTF-8\n");
-        return MISUSED;
+        return EXIT_USAGE;
     }
     refuse(faults, Refusal::Memory)
 }

@@ -21,7 +21,7 @@ use Rattle.std_heap.specs.contracts.GlobalAllocator.TheImpl.{ghosts, dict}
 use Rattle.std_heap.proofs.Global.TheLaws as heap
 use Rattle.poll82599_c.specs.contracts.end.End as Held
 use Rattle.poll82599_c.proofs.end.End.TheLaws as held
-use Rattle.opaque.specs.contracts.Parts as Parts
+use Rattle.ffi_handle.specs.contracts.Parts as Parts
 use Rattle.poll82599_c.specs.contracts.handle.Handle as Handle
 
 abbrev pub E : Bx

@@ -3,7 +3,7 @@ ghost use Rattle.std.specs.Prelude.{◌≡◌, ◌⊎◌, Option, Some, None, If
 ghost use Rattle.poll82599_c.specs.declared.end.End.{End as Held};
 
 use crate::end::End;
-use opaque::Parts;
+use ffi_handle::Parts;
 use std::alloc::Global;
 use std::marker::Model;
 use std::mem::replace;
@@ -19,7 +19,7 @@ pub struct Handle {
 }
 
 impl Model for Handle {
-    ghost use Rattle.opaque.specs.Held.{held_owns};
+    ghost use Rattle.ffi_handle.specs.Held.{held_owns};
     ghost use Rattle.std.specs.contracts.impls.GlobalAllocator.TheImpl.{ghosts};
     ghost use Rattle.poll82599_c.specs.contracts.end.End.{the_row};
 

@@ -1,7 +1,7 @@
 //! One pool of buffers for all threads.
-//! Depends on `buffer_pool`, `limits` and `crossbeam_queue`.
-//! At every moment and under every schedule, the pool and all passes together hold the numbers `0` to `count - 1`, each
-//! once.
+//! Depends on `buffer_pool`, `limits`, `refusals`, `crossbeam_queue` and `atomic_table`.
+//! Guarantees that at every moment and under every schedule, the pool and all passes together hold the numbers `0` to
+//! `count - 1`, each once.
 //!
 //! A [`Pool`] has the buffers that no worker holds, and each worker takes and returns buffers by its [`PoolPass`]. The
 //! guarantee is the rule of the pool's queue ([`Sharing`]), which each step keeps, so a pool always has room for a

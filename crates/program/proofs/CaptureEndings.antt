@@ -3,7 +3,7 @@ use Rattle.std.proofs.Common.{◌≡◌, ◌∙◌, ap, sym, inl, inr, ℕ, Bool
 use Rattle.std.specs.Prelude.{if◌then◌else◌}
 use Rattle.std.proofs.lemmas.List.{append-nil}
 use Rattle.std.specs.Io.KnownBytes.{Keeps}
-use Rattle.requests.specs.declared.answers.TheConstants.{DONE, REFUSED}
+use Rattle.requests.specs.declared.answers.TheConstants.{EXIT_SUCCESS, EXIT_REFUSED}
 use Rattle.requests.specs.declared.refusal.Refusal.TheVariants as refusal
 use Rattle.forwarding.specs.declared.report.FlowReport.{FlowReport}
 use Rattle.program.specs.Forwards.{AreReports, EndsForward, IsForwarded, IsUnforwarded}
@@ -13,9 +13,9 @@ use Rattle.program.proofs.Endings.{done-ends, kept, refused-ends}
 use Rattle.settings.specs.declared.config.Config.{Config}
 use Rattle.forward_io.specs.Refusals.{refused_itself}
 use Rattle.requests.specs.Files.{PortFile, SourceFile}
-use Rattle.forward_io.specs.declared.captured.refused.Refused.{Refused}
+use Rattle.forward_io.specs.declared.captured.refused.FileRefusal.{FileRefusal}
 use Rattle.wire_script.specs.Frame.{Frame}
-use Rattle.forward_io.specs.declared.captured.refused.Place.TheVariants.{Command}
+use Rattle.forward_io.specs.declared.captured.refused.RefusalSubject.TheVariants.{Command}
 use Rattle.capture.specs.declared.options.ReadOptions.{ReadOptions}
 use Rattle.capture.specs.declared.options.Skipped.{Skipped}
 use Rattle.refusals.specs.declared.errors.ScriptError.{ScriptError}
@@ -33,21 +33,21 @@ use Rattle.forward_io.specs.ScriptIntakes.{IsScript}
 use Rattle.forward_io.specs.WireFiles.{IsUnpaged}
 
 -- there were reports, and no page of them
-pub unpaged : (config : Config) (intake : FrameIntake) (wires : List PortFile) (input : Option (List ℕ)) (e : Refused)
+pub unpaged : (config : Config) (intake : FrameIntake) (wires : List PortFile) (input : Option (List ℕ)) (e : FileRefusal)
     (script : List Frame) (skipped : List Skipped) (flows : List FlowReport) → IsScript intake input script skipped → AreReports config script flows → IsUnpaged wires e
     → HasNoPage config intake wires input e
 unpaged config intake wires input e script skipped flows says reports why =
     inr (inr (record { flows = flows; skipped = skipped; reports = record { script = script; says = says; reports = reports }; why = why }))
 
 -- a script is there, and its forwarding is refused
-pub unforwarded : (config : Config) (intake : FrameIntake) (wires : List PortFile) (input : Option (List ℕ)) (e : Refused)
+pub unforwarded : (config : Config) (intake : FrameIntake) (wires : List PortFile) (input : Option (List ℕ)) (e : FileRefusal)
     (script : List Frame) (skipped : List Skipped) → IsScript intake input script skipped → e.place ≡ Command → IsUnforwarded config script e.refusal
     → HasNoPage config intake wires input e
 unforwarded config intake wires input e script skipped says place why =
     inr (inl (inr (record { script = script; skipped = skipped; says = says; place = place; why = why })))
 
 -- there is no page, and nothing was printed
-pub withheld : (config : Config) (to : Outlet) (intake : FrameIntake) (wires : List PortFile) (input old : Option (List ℕ)) (e : Refused)
+pub withheld : (config : Config) (to : Outlet) (intake : FrameIntake) (wires : List PortFile) (input old : Option (List ℕ)) (e : FileRefusal)
     → HasNoPage config intake wires input e → WithholdsPage config to intake wires input e old old
 withheld config to intake wires input old e why = inl (why, unchanged old)
 
@@ -59,7 +59,7 @@ page-of config to intake input script skipped flows page says reports printed =
     record { flows = flows; skipped = skipped; reports = record { script = script; says = says; reports = reports }; printed = printed }
 
 -- a page that an output did not take
-pub unprinted : (config : Config) (to : Outlet) (intake : FrameIntake) (wires : List PortFile) (input old new : Option (List ℕ)) (e : Refused) (page : List ℕ)
+pub unprinted : (config : Config) (to : Outlet) (intake : FrameIntake) (wires : List PortFile) (input old new : Option (List ℕ)) (e : FileRefusal) (page : List ℕ)
     → IsPage config to intake input page → e ≡ refused_itself refusal.Output → WithholdsPage config to intake wires input e old new
 unprinted config to intake wires input old new e page is out = inr (page, is, out)
 
@@ -126,19 +126,19 @@ as-page config printing stream intake input page none text is =
     (subst (λ (s : Option ℕ). IsPage config (record { printing = printing; stream = s }) intake input page) text is))
 
 pub script-done : (config : Config) (printing : Printing) (stream : Option ℕ) (intake : FrameIntake) (input old new : Option (List ℕ)) (text : List ℕ) → intake.sources ≡ [] → stream ≡ None
-    → PrintsPage config (record { printing = printing; stream = stream }) intake input old new → input ≡ Some text → EndsForward config printing text DONE old new
+    → PrintsPage config (record { printing = printing; stream = stream }) intake input old new → input ≡ Some text → EndsForward config printing text EXIT_SUCCESS old new
 script-done config printing stream intake input old new text none whole prints known =
     done-ends config printing input old new text (prints.0, as-page config printing stream intake input prints.0 none whole prints.1, prints.2) known
 
-pub script-refused : (config : Config) (printing : Printing) (stream : Option ℕ) (intake : FrameIntake) (wires : List PortFile) (input old new : Option (List ℕ)) (e : Refused) (text : List ℕ)
+pub script-refused : (config : Config) (printing : Printing) (stream : Option ℕ) (intake : FrameIntake) (wires : List PortFile) (input old new : Option (List ℕ)) (e : FileRefusal) (text : List ℕ)
     → intake.sources ≡ [] → stream ≡ None → WithholdsPage config (record { printing = printing; stream = stream }) intake wires input e old new → input ≡ Some text
-    → EndsForward config printing text REFUSED old new
+    → EndsForward config printing text EXIT_REFUSED old new
 script-refused config printing stream intake wires input old new e text none whole (inl withheld) known = kept config printing text old new withheld.1
 script-refused config printing stream intake wires input old new e text none whole (inr was) known =
     refused-ends config printing input refusal.Output old new text (inr (was.0, as-page config printing stream intake input was.0 none whole was.1, refl)) known
 
 -- a refusal
-pub ends-refused : (config : Config) (to : Outlet) (intake : FrameIntake) (wires : List PortFile) (input old new : Option (List ℕ)) (e : Refused)
+pub ends-refused : (config : Config) (to : Outlet) (intake : FrameIntake) (wires : List PortFile) (input old new : Option (List ℕ)) (e : FileRefusal)
     → WithholdsPage config to intake wires input e old new → EndsRefused config to intake input old new
 ends-refused config to intake wires input old new e (inl withheld) = inl withheld.1
 ends-refused config to intake wires input old new e (inr was) = inr (was.0, was.1)

@@ -2,7 +2,7 @@
 use Rattle.std.proofs.Common.{◌≡◌, inl, inr, ℕ, List, Option, Some, refl, subst}
 use Rattle.std.specs.Prelude.{Ok, Err}
 use Rattle.std.specs.Io.KnownBytes.{Appends, Keeps}
-use Rattle.requests.specs.declared.answers.TheConstants.{DONE, REFUSED}
+use Rattle.requests.specs.declared.answers.TheConstants.{EXIT_SUCCESS, EXIT_REFUSED}
 use Rattle.requests.specs.declared.refusal.Refusal.{Refusal}
 use Rattle.forwarding.specs.declared.report.FlowReport.{FlowReport}
 use Rattle.settings.specs.Configs.{FitsIn}
@@ -31,12 +31,12 @@ no-misfit config text flows other report says not =
     let same : report.script ≡ other = (let mine = report.says in cc) in not (subst (λ (s : List Frame). FitsIn s config) same report.reports.fits)
 
 -- refused is not done
-undone : (config : Config) (printing : Printing) (text : List ℕ) (old new : Option (List ℕ)) → REFUSED ≡ DONE → HasForwarded config printing text old new
+undone : (config : Config) (printing : Printing) (text : List ℕ) (old new : Option (List ℕ)) → EXIT_REFUSED ≡ EXIT_SUCCESS → HasForwarded config printing text old new
 undone config printing text old new e = let bad : ⊥ = cc e in absurd bad
 
 done : (config : Config) (printing : Printing) (text page : List ℕ) (old new : Option (List ℕ)) → IsForwarded config printing (Some text) page → Appends old new page
-    → EndsForward config printing text DONE old new
-done config printing text page old new (read, same, has) printed = subst (λ (t : List ℕ). EndsForward config printing t DONE old new) same (record {
+    → EndsForward config printing text EXIT_SUCCESS old new
+done config printing text page old new (read, same, has) printed = subst (λ (t : List ℕ). EndsForward config printing t EXIT_SUCCESS old new) same (record {
   done = λ e. record { flows = has.flows; report = has.report; printed = subst (λ (t : List ℕ). Appends old new t) has.printed printed };
   either = inl refl;
   faulty = λ e bad. absurd (no-fault config read has.flows e has.report bad);
@@ -44,12 +44,12 @@ done config printing text page old new (read, same, has) printed = subst (λ (t 
 })
 
 -- a refusal that prints nothing ends it, whatever the text is
-pub kept : (config : Config) (printing : Printing) (text : List ℕ) (old new : Option (List ℕ)) → Keeps old new → EndsForward config printing text REFUSED old new
+pub kept : (config : Config) (printing : Printing) (text : List ℕ) (old new : Option (List ℕ)) → Keeps old new → EndsForward config printing text EXIT_REFUSED old new
 kept config printing text old new keeps = record { done = undone config printing text old new; either = inr refl; faulty = λ e bad. (refl, keeps); unfit = λ script says not. (refl, keeps) }
 
 -- what was made and not printed is of a script that could be forwarded
-unprinted : (config : Config) (printing : Printing) (text page : List ℕ) (old new : Option (List ℕ)) → IsForwarded config printing (Some text) page → EndsForward config printing text REFUSED old new
-unprinted config printing text page old new (read, same, has) = subst (λ (t : List ℕ). EndsForward config printing t REFUSED old new) same (record {
+unprinted : (config : Config) (printing : Printing) (text page : List ℕ) (old new : Option (List ℕ)) → IsForwarded config printing (Some text) page → EndsForward config printing text EXIT_REFUSED old new
+unprinted config printing text page old new (read, same, has) = subst (λ (t : List ℕ). EndsForward config printing t EXIT_REFUSED old new) same (record {
   done = undone config printing read old new;
   either = inr refl;
   faulty = λ e bad. absurd (no-fault config read has.flows e has.report bad);
@@ -57,12 +57,12 @@ unprinted config printing text page old new (read, same, has) = subst (λ (t : L
 })
 
 pub done-ends : (config : Config) (printing : Printing) (input old new : Option (List ℕ)) (text : List ℕ) → PrintsForward config printing input old new → input ≡ Some text
-    → EndsForward config printing text DONE old new
+    → EndsForward config printing text EXIT_SUCCESS old new
 done-ends config printing input old new text (page, is, printed) known =
     done config printing text page old new (subst (λ (i : Option (List ℕ)). IsForwarded config printing i page) known is) printed
 
 pub refused-ends : (config : Config) (printing : Printing) (input : Option (List ℕ)) (e : Refusal) (old new : Option (List ℕ)) (text : List ℕ)
-    → WithholdsForward config printing input e old new → input ≡ Some text → EndsForward config printing text REFUSED old new
+    → WithholdsForward config printing input e old new → input ≡ Some text → EndsForward config printing text EXIT_REFUSED old new
 refused-ends config printing input e old new text (inl (why, keeps)) known = kept config printing text old new keeps
 refused-ends config printing input e old new text (inr (page, is, out)) known =
     unprinted config printing text page old new (subst (λ (i : Option (List ℕ)). IsForwarded config printing i page) known is)

@@ -2,8 +2,8 @@
 use Rattle.std.proofs.Common.{◌≡◌, inl, inr, refl, ℕ, Bool, List, Option, Some, subst}
 use Rattle.std.specs.Prelude.{Result, Ok, Err}
 use Rattle.std.specs.Io.KnownBytes.{Keeps}
-use Rattle.requests.specs.declared.answers.TheConstants.{DONE, REFUSED}
-use Rattle.requests.specs.declared.decode.Form.{Form}
+use Rattle.requests.specs.declared.answers.TheConstants.{EXIT_SUCCESS, EXIT_REFUSED}
+use Rattle.requests.specs.declared.decode.DescriptorForm.{DescriptorForm}
 use Rattle.requests.specs.declared.replay.QueuePlan.{QueuePlan}
 use Rattle.requests.specs.declared.request.Request.{Request}
 use Rattle.requests.specs.declared.request.Request.TheVariants.{Once, Decode, Replay}
@@ -31,16 +31,16 @@ use Rattle.command_line.specs.CommandLine.{IsDecode, IsOnce, IsReplayOf, SaysFor
 use Rattle.clap.specs.Words.{Text}
 use Rattle.requests.specs.declared.conversion.CaptureRequest.TheVariants.{FromCapture, ToCapture}
 use Rattle.command_line.specs.FileWords.{FileOptions}
-use Rattle.command_line.specs.Sayings.{IsAsked, Says, Saying}
-use Rattle.command_line.specs.Sayings.Saying.{once, decode, replay, forward, from_capture, to_capture, schedules, cover}
-use Rattle.command_line.proofs.Sayings.{each}
+use Rattle.command_line.specs.ParsedCommands.{IsAsked, Says, ParsedCommand}
+use Rattle.command_line.specs.ParsedCommands.ParsedCommand.{once, decode, replay, forward, from_capture, to_capture, schedules, cover}
+use Rattle.command_line.proofs.ParsedCommands.{each}
 use Rattle.command_line.specs.declared.command.Asked.TheVariants as asked
 
 pub capture-ends : (given request : CaptureRequest) (bytes : List ℕ) (input : Option (List ℕ)) (status : ℕ) (old new : Option (List ℕ)) → given ≡ request
     → input ≡ Some bytes → ((b : List ℕ) → input ≡ Some b → EndsBy (meant given b) status old new) → EndsBy (meant request bytes) status old new
 capture-ends given request bytes input status old new is known ends = subst (λ (r : CaptureRequest). EndsBy (meant r bytes) status old new) is (ends bytes known)
 
-pub capture-kept : (answer : Result (List ℕ) Refusal) (old new : Option (List ℕ)) → Keeps old new → EndsBy answer REFUSED old new
+pub capture-kept : (answer : Result (List ℕ) Refusal) (old new : Option (List ℕ)) → Keeps old new → EndsBy answer EXIT_REFUSED old new
 capture-kept answer old new keeps = capture-kept-by answer old new keeps
 
 pub once-ends : (request : Request) (digits : List ℕ) (input : Option (List ℕ)) (status : ℕ) (old new : Option (List ℕ)) → IsOnce request digits
@@ -49,7 +49,7 @@ once-ends (Once given) digits input status old new is ends = subst (λ ds. Ends 
 once-ends (Decode form given) digits input status old new is ends = absurd is
 once-ends (Replay plan) digits input status old new is ends = absurd is
 
-pub decode-ends : (request : Request) (form : Form) (digits : List ℕ) (input : Option (List ℕ)) (status : ℕ) (old new : Option (List ℕ)) → IsDecode request form digits
+pub decode-ends : (request : Request) (form : DescriptorForm) (digits : List ℕ) (input : Option (List ℕ)) (status : ℕ) (old new : Option (List ℕ)) → IsDecode request form digits
     → EndsAs request input status old new → EndsDecode form digits status old new
 decode-ends (Once given) form digits input status old new is ends = absurd is
 decode-ends (Replay plan) form digits input status old new is ends = absurd is
@@ -62,11 +62,11 @@ replay-ends (Once given) plan text input status old new is known ends = absurd i
 replay-ends (Decode form given) plan text input status old new is known ends = absurd is
 replay-ends (Replay given) plan text input status old new is known ends = subst (λ (p : QueuePlan). EndsReplay p text status old new) is (ends text known)
 
-undone : (plan : QueuePlan) (text : List ℕ) (old new : Option (List ℕ)) → REFUSED ≡ DONE → HasReplayed plan text old new
+undone : (plan : QueuePlan) (text : List ℕ) (old new : Option (List ℕ)) → EXIT_REFUSED ≡ EXIT_SUCCESS → HasReplayed plan text old new
 undone plan text old new e = let bad : ⊥ = cc e in absurd bad
 
 -- whatever the text is, a refusal that prints nothing ends it
-pub replay-kept : (plan : QueuePlan) (text : List ℕ) (old new : Option (List ℕ)) → Keeps old new → EndsReplay plan text REFUSED old new
+pub replay-kept : (plan : QueuePlan) (text : List ℕ) (old new : Option (List ℕ)) → Keeps old new → EndsReplay plan text EXIT_REFUSED old new
 replay-kept plan text old new kept = record { done = undone plan text old new; either = inr refl; faulty = λ k f. (refl, kept); no_queues = λ no. (refl, kept) }
 
 pub forward-ends : (given config : Config) (shown printing : Printing) (wires : List PortFile) (intake : FrameIntake) (input : Option (List ℕ)) (status : ℕ)
@@ -78,7 +78,7 @@ forward-ends given config shown printing wires intake input status old new is en
 
 -- a refusal that prints nothing ends it, whatever is forwarded
 pub forward-kept : (config : Config) (to : Outlet) (intake : FrameIntake) (input old new : Option (List ℕ)) → Keeps old new
-    → EndsForwarding config to intake input REFUSED old new
+    → EndsForwarding config to intake input EXIT_REFUSED old new
 forward-kept config to intake input old new keeps = record {
   script = λ none whole text known. script-kept config to.printing text old new keeps;
   captured = λ e. let bad : ⊥ = cc e in absurd bad;
@@ -103,24 +103,24 @@ pub schedules-ends : (given request : ScheduleRequest) (status : ℕ) (old new :
     → EndsSchedules request status old new
 schedules-ends given request status old new is ends = subst (λ (r : ScheduleRequest). EndsSchedules r status old new) is ends
 
-pub schedules-kept : (request : ScheduleRequest) (old new : Option (List ℕ)) → Keeps old new → EndsSchedules request REFUSED old new
+pub schedules-kept : (request : ScheduleRequest) (old new : Option (List ℕ)) → Keeps old new → EndsSchedules request EXIT_REFUSED old new
 schedules-kept request old new keeps = record {
   done = λ e. let bad : ⊥ = cc e in absurd bad;
   either = inr refl;
   no_queues = λ off some. (refl, keeps);
 }
 
-pub cover-kept : (request : CoverRequest) (old new : Option (List ℕ)) → EndsCover request REFUSED old new
+pub cover-kept : (request : CoverRequest) (old new : Option (List ℕ)) → EndsCover request EXIT_REFUSED old new
 cover-kept request old new = record { done = λ e. let bad : ⊥ = cc e in absurd bad; either = inr refl }
 
 -- ---- from a request to the end of its run
 
 -- a refusal that prints nothing ends each
-once-kept : (frame : Result (List ℕ) Refusal) (old new : Option (List ℕ)) → Keeps old new → Ends frame REFUSED old new
+once-kept : (frame : Result (List ℕ) Refusal) (old new : Option (List ℕ)) → Keeps old new → Ends frame EXIT_REFUSED old new
 once-kept (Ok bytes) old new keeps = inr refl
 once-kept (Err e) old new keeps = (refl, keeps)
 
-pub kept : (saying : Saying) (is_terminal : Bool) (input old new : Option (List ℕ)) → Keeps old new → EndsSaid saying is_terminal input REFUSED old new
+pub kept : (saying : ParsedCommand) (is_terminal : Bool) (input old new : Option (List ℕ)) → Keeps old new → EndsSaid saying is_terminal input EXIT_REFUSED old new
 kept (once digits) is_terminal input old new keeps = once-kept (frame_in digits) old new keeps
 kept (decode form digits) is_terminal input old new keeps = inr (refl, keeps)
 kept (replay plan) is_terminal input old new keeps = λ text known. replay-kept plan text old new keeps
@@ -131,7 +131,7 @@ kept (schedules request) is_terminal input old new keeps = schedules-kept reques
 kept (cover request) is_terminal input old new keeps = cover-kept request old new
 
 -- what is asked for ends as it is said to
-pub request-ends : (saying : Saying) (request : Request) (is_terminal : Bool) (input : Option (List ℕ)) (status : ℕ) (old new : Option (List ℕ)) → IsAsked saying (asked.Request request)
+pub request-ends : (saying : ParsedCommand) (request : Request) (is_terminal : Bool) (input : Option (List ℕ)) (status : ℕ) (old new : Option (List ℕ)) → IsAsked saying (asked.Request request)
     → EndsAs request input status old new → EndsSaid saying is_terminal input status old new
 request-ends (once digits) request is_terminal input status old new is ends = once-ends request digits input status old new is ends
 request-ends (decode form digits) request is_terminal input status old new is ends = decode-ends request form digits input status old new is ends
@@ -142,7 +142,7 @@ request-ends (to_capture port) request is_terminal input status old new is ends 
 request-ends (schedules request′) request is_terminal input status old new is ends = absurd is
 request-ends (cover request′) request is_terminal input status old new is ends = absurd is
 
-pub forward-said : (words : List Text) (saying : Saying) (given : Config) (shown : Printing) (is_terminal : Bool) (input : Option (List ℕ)) (status : ℕ) (old new : Option (List ℕ))
+pub forward-said : (words : List Text) (saying : ParsedCommand) (given : Config) (shown : Printing) (is_terminal : Bool) (input : Option (List ℕ)) (status : ℕ) (old new : Option (List ℕ))
     → IsAsked saying (asked.Forward given shown) → Says words saying
     → ((config : Config) (printing : Printing) (files : FileOptions) → SaysForward words config printing files → EndsForwarding given (outlet shown files.wires) (intake_of files is_terminal) input status old new)
     → EndsSaid saying is_terminal input status old new
@@ -152,20 +152,20 @@ forward-said words saying given shown is_terminal input status old new is says e
     (λ config printing files is says. forward-ends given config shown printing files.wires (intake_of files is_terminal) input status old new is (ends config printing files says))
     (λ p q r is says. absurd is) (λ p is says. absurd is) (λ r is says. absurd is) (λ r is says. absurd is) saying is says
 
-pub capture-said : (saying : Saying) (given : CaptureRequest) (is_terminal : Bool) (input : Option (List ℕ)) (status : ℕ) (old new : Option (List ℕ)) → IsAsked saying (asked.Capture given)
+pub capture-said : (saying : ParsedCommand) (given : CaptureRequest) (is_terminal : Bool) (input : Option (List ℕ)) (status : ℕ) (old new : Option (List ℕ)) → IsAsked saying (asked.Capture given)
     → ((bytes : List ℕ) → input ≡ Some bytes → EndsBy (meant given bytes) status old new) → EndsSaid saying is_terminal input status old new
 capture-said saying given is_terminal input status old new is ends =
     each (λ s. IsAsked s (asked.Capture given) → EndsSaid s is_terminal input status old new) (λ d is. absurd is) (λ f d is. absurd is) (λ p is. absurd is) (λ c p f is. absurd is)
     (λ port queue reading is bytes known. capture-ends given (FromCapture port queue reading) bytes input status old new is known ends)
     (λ port is text known. capture-ends given (ToCapture port) text input status old new is known ends) (λ r is. absurd is) (λ r is. absurd is) saying is
 
-pub schedules-said : (saying : Saying) (given : ScheduleRequest) (is_terminal : Bool) (input : Option (List ℕ)) (status : ℕ) (old new : Option (List ℕ)) → IsAsked saying (asked.Schedules given)
+pub schedules-said : (saying : ParsedCommand) (given : ScheduleRequest) (is_terminal : Bool) (input : Option (List ℕ)) (status : ℕ) (old new : Option (List ℕ)) → IsAsked saying (asked.Schedules given)
     → EndsSchedules given status old new → EndsSaid saying is_terminal input status old new
 schedules-said saying given is_terminal input status old new is ends =
     each (λ s. IsAsked s (asked.Schedules given) → EndsSaid s is_terminal input status old new) (λ d is. absurd is) (λ f d is. absurd is) (λ p is. absurd is) (λ c p f is. absurd is)
     (λ p q r is. absurd is) (λ p is. absurd is) (λ request is. schedules-ends given request status old new is ends) (λ r is. absurd is) saying is
 
-pub cover-said : (saying : Saying) (given : CoverRequest) (is_terminal : Bool) (input : Option (List ℕ)) (status : ℕ) (old new : Option (List ℕ)) → IsAsked saying (asked.Cover given)
+pub cover-said : (saying : ParsedCommand) (given : CoverRequest) (is_terminal : Bool) (input : Option (List ℕ)) (status : ℕ) (old new : Option (List ℕ)) → IsAsked saying (asked.Cover given)
     → EndsCover given status old new → EndsSaid saying is_terminal input status old new
 cover-said saying given is_terminal input status old new is ends =
     each (λ s. IsAsked s (asked.Cover given) → EndsSaid s is_terminal input status old new) (λ d is. absurd is) (λ f d is. absurd is) (λ p is. absurd is) (λ c p f is. absurd is)

@@ -2,7 +2,7 @@
 use Rattle.std.specs.Prelude.{◌≡◌, ◌⊎◌, ℕ, ◌*◌, ◌<◌, List, length, slice_index_or, Option, Ok, Err, IfSome}
 use Rattle.std.specs.Io.KnownBytes.{Appends, Keeps}
 use Rattle.limits.specs.declared.profile.TheConstants.{PORTS}
-use Rattle.requests.specs.declared.answers.TheConstants.{DONE, REFUSED}
+use Rattle.requests.specs.declared.answers.TheConstants.{EXIT_SUCCESS, EXIT_REFUSED}
 use Rattle.requests.specs.declared.refusal.Refusal.{Refusal}
 use Rattle.requests.specs.declared.refusal.Refusal.TheVariants as refusal
 use Rattle.flows.specs.Reports.{IsReport}
@@ -82,7 +82,7 @@ WithholdsForward config printing input e old new =
 -- how `forward` ends for this text: it is forwarded and printed, or refused. A faulty text and a configuration that
 -- does not fit are always refused, with nothing printed
 pub record EndsForward (config : Config) (printing : Printing) (text : List ℕ) (status : ℕ) (old new : Option (List ℕ)) : Type 0 where
-  pub done : status ≡ DONE → HasForwarded config printing text old new
-  pub either : (status ≡ DONE) ⊎ (status ≡ REFUSED)
-  pub faulty : (e : ScriptError) → script_of text ≡ Err e → (status ≡ REFUSED) × Keeps old new
-  pub unfit : (script : List Frame) → script_of text ≡ Ok script → ¬ (FitsIn script config) → (status ≡ REFUSED) × Keeps old new
+  pub done : status ≡ EXIT_SUCCESS → HasForwarded config printing text old new
+  pub either : (status ≡ EXIT_SUCCESS) ⊎ (status ≡ EXIT_REFUSED)
+  pub faulty : (e : ScriptError) → script_of text ≡ Err e → (status ≡ EXIT_REFUSED) × Keeps old new
+  pub unfit : (script : List Frame) → script_of text ≡ Ok script → ¬ (FitsIn script config) → (status ≡ EXIT_REFUSED) × Keeps old new

@@ -1,6 +1,6 @@
 -- How a run of the program ends.
 use Rattle.std.specs.Prelude.{◌≡◌, ℕ, List, [], Option, Some, None, Bool}
-use Rattle.requests.specs.declared.answers.TheConstants.{DONE, REFUSED}
+use Rattle.requests.specs.declared.answers.TheConstants.{EXIT_SUCCESS, EXIT_REFUSED}
 use Rattle.program.specs.CaptureForwards.{EndsRefused, PrintsPage}
 use Rattle.program.specs.Forwards.{EndsForward}
 use Rattle.forward_io.specs.Streams.{Outlet, outlet}
@@ -14,8 +14,8 @@ use Rattle.commands.specs.Replay.{EndsReplay}
 use Rattle.schedule_command.specs.Covers.{EndsCover}
 use Rattle.schedule_command.specs.Lists.{EndsSchedules}
 use Rattle.command_line.specs.FileWords.{FileOptions}
-use Rattle.command_line.specs.Sayings.{Saying}
-use Rattle.command_line.specs.Sayings.Saying.{once, decode, replay, forward, from_capture, to_capture, schedules, cover}
+use Rattle.command_line.specs.ParsedCommands.{ParsedCommand}
+use Rattle.command_line.specs.ParsedCommands.ParsedCommand.{once, decode, replay, forward, from_capture, to_capture, schedules, cover}
 
 -- the frames that come in, with this input
 abbrev pub intake_of : FileOptions → Bool → FrameIntake
@@ -24,12 +24,12 @@ intake_of files is_terminal = record { sources = files.sources; reading = files.
 -- without captures the script of the input is forwarded, otherwise the captures, and the script if the input is read
 pub record EndsForwarding (config : Config) (to : Outlet) (intake : FrameIntake) (input : Option (List ℕ)) (status : ℕ) (old new : Option (List ℕ)) : Type 0 where
   pub script : intake.sources ≡ [] → to.stream ≡ None → (text : List ℕ) → input ≡ Some text → EndsForward config to.printing text status old new
-  pub captured : status ≡ DONE → PrintsPage config to intake input old new
-  pub refused : status ≡ REFUSED → EndsRefused config to intake input old new
+  pub captured : status ≡ EXIT_SUCCESS → PrintsPage config to intake input old new
+  pub refused : status ≡ EXIT_REFUSED → EndsRefused config to intake input old new
 
 -- how a run of it ends, with an input that may be a terminal and whose bytes may be unknown, and with the old and the new
 -- output
-abbrev pub EndsSaid : Saying → Bool → Option (List ℕ) → ℕ → Option (List ℕ) → Option (List ℕ) → Type 0
+abbrev pub EndsSaid : ParsedCommand → Bool → Option (List ℕ) → ℕ → Option (List ℕ) → Option (List ℕ) → Type 0
 EndsSaid (once digits) is_terminal input status old new = Ends (frame_in digits) status old new
 EndsSaid (decode form digits) is_terminal input status old new = EndsDecode form digits status old new
 EndsSaid (replay plan) is_terminal input status old new = (text : List ℕ) → input ≡ Some text → EndsReplay plan text status old new

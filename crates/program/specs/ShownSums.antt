@@ -3,7 +3,7 @@ use Rattle.std.specs.Prelude.{◌≡◌, ℕ, ◌+◌, ◌-◌, ◌^◌, max, mi
 use Rattle.counters.specs.declared.flows.FlowCells.{FlowCells}
 use Rattle.program.specs.declared.progress.reader.Reader.{Reader}
 use Rattle.program.specs.declared.progress.reading.Seen.{Seen}
-use Rattle.forward_io.specs.declared.progress.Shown.{Shown}
+use Rattle.forward_io.specs.declared.progress.LiveTotals.{LiveTotals}
 
 -- the cells that a reader reads
 abbrev pub read_by : Reader → FlowCells
@@ -35,7 +35,7 @@ abbrev pub nothing_seen : Seen
 nothing_seen = record { offered = 0; taken = 0; posted = 0 }
 
 -- the report shows these sums and the number of frames; its rate depends on the clock
-pub record Shows (seen : Seen) (all : ℕ) (s : Shown) : Type 0 where
+pub record Shows (seen : Seen) (all : ℕ) (s : LiveTotals) : Type 0 where
   pub offered : s.offered ≡ seen.offered
   pub frames : s.frames ≡ all
   pub taken : s.taken ≡ seen.taken

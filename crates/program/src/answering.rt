@@ -1,12 +1,12 @@
 //! Runs `forward` on its streams, and returns its exit status.
 ghost use Rattle.std.specs.Prelude.{◌≡◌, ◌⊎◌, ℕ, List, Some, false, IfErr, OnOk};
 ghost use Rattle.std.specs.Io.KnownBytes.{Keeps};
-ghost use Rattle.requests.specs.declared.answers.TheConstants.{DONE, REFUSED};
+ghost use Rattle.requests.specs.declared.answers.TheConstants.{EXIT_SUCCESS, EXIT_REFUSED};
 ghost use Rattle.program.specs.Forwards.{EndsForward, PrintsForward, WithholdsForward};
 
 use crate::page::forward;
 use forwarder::Config;
-use requests::{DONE, Printing, Refusal, print, refuse};
+use requests::{EXIT_SUCCESS, Printing, Refusal, print, refuse};
 use std::alloc::Global;
 use std::io::{IsTerminal, Read, Write};
 use std::marker::Send;
@@ -32,14 +32,14 @@ pub fn answer<
     faults: &mut E,
     screen: &mut M,
 ) -> u8
-    ensures status { (result ≡ DONE) ⊎ (result ≡ REFUSED) }
-    ensures done { result ≡ DONE → Keeps (E.contents faults.old) (E.contents faults.new) }
+    ensures status { (result ≡ EXIT_SUCCESS) ⊎ (result ≡ EXIT_REFUSED) }
+    ensures done { result ≡ EXIT_SUCCESS → Keeps (E.contents faults.old) (E.contents faults.new) }
     ensures ends { (text : List ℕ) → I.remaining input.old ≡ Some text
         → EndsForward config.now printing text result (W.contents output.old) (W.contents output.new) }
     ensures screen { printing.progress ≡ false → screen.new ≡ screen.old }
 {
     match perform(rt, alloc, config, printing, input, output, screen) {
-        Ok(()) => DONE,
+        Ok(()) => EXIT_SUCCESS,
         Err(refusal) => refuse(faults, refusal),
     }
 }

@@ -1,7 +1,7 @@
 //! Serves `forward` with captures, and returns an exit status.
 ghost use Rattle.std.specs.Prelude.{◌≡◌, ◌⊎◌, ℕ, List, [], None, Some, false, IfErr, IfOk, OnOk};
 ghost use Rattle.std.specs.Io.KnownBytes.{Keeps};
-ghost use Rattle.requests.specs.declared.answers.TheConstants.{DONE, REFUSED};
+ghost use Rattle.requests.specs.declared.answers.TheConstants.{EXIT_SUCCESS, EXIT_REFUSED};
 ghost use Rattle.program.specs.Forwards.{EndsForward};
 ghost use Rattle.program.specs.CaptureForwards.{EndsRefused, HasNoPage, IsPage, PrintsPage, WithholdsPage};
 ghost use Rattle.forward_io.specs.Intakes.{reads_script};
@@ -10,9 +10,9 @@ ghost use Rattle.requests.specs.Files.{streamed_port};
 
 use crate::cuts::{Due, explain_cuts};
 use crate::page::forwarded;
-use forward_io::captured::{Intake, Refused, page_for, script_for, targets_of, tell};
+use forward_io::captured::{FileRefusal, Intake, page_for, script_for, targets_of, tell};
 use forwarder::Config;
-use requests::{DONE, Printing, WireFile, put};
+use requests::{EXIT_SUCCESS, Printing, WireFile, put};
 use std::alloc::Global;
 use std::io::{IsTerminal, Read, Write};
 use std::marker::Send;
@@ -52,13 +52,13 @@ pub fn answer<
     screen: &mut M,
     explain: bool,
 ) -> u8
-    ensures status { (result ≡ DONE) ⊎ (result ≡ REFUSED) }
-    ensures done { result ≡ DONE → Keeps (E.contents faults.old) (E.contents faults.new) }
+    ensures status { (result ≡ EXIT_SUCCESS) ⊎ (result ≡ EXIT_REFUSED) }
+    ensures done { result ≡ EXIT_SUCCESS → Keeps (E.contents faults.old) (E.contents faults.new) }
     ensures forward { intake.now.sources ≡ [] → streamed_port wires.now ≡ None → (text : List ℕ) → I.remaining input.old ≡ Some text
         → EndsForward config.now printing text result (W.contents output.old) (W.contents output.new) }
-    ensures captured { result ≡ DONE
+    ensures captured { result ≡ EXIT_SUCCESS
         → PrintsPage config.now (outlet printing wires.now) intake.now (I.remaining input.old) (W.contents output.old) (W.contents output.new) }
-    ensures refused { result ≡ REFUSED
+    ensures refused { result ≡ EXIT_REFUSED
         → EndsRefused config.now (outlet printing wires.now) intake.now (I.remaining input.old) (W.contents output.old) (W.contents output.new) }
     ensures unread { reads_script intake.now ≡ false → input.new ≡ input.old }
     ensures screen { printing.progress ≡ false → streamed_port wires.now ≡ None → intake.now.reading.skip ≡ false → config.now.turns ≡ 0 → screen.new ≡ screen.old }
@@ -70,7 +70,7 @@ pub fn answer<
         Ok(()) => {
             note_cuts(screen, config.turns, explain, why.as_str());
             drop(why);
-            DONE
+            EXIT_SUCCESS
         }
         Err(refused) => tell(faults, config, intake.sources, wires, refused, why, explain),
     }
@@ -107,7 +107,7 @@ pub fn perform<
     output: &mut W,
     screen: &mut M,
     why: &mut String,
-) -> Result<(), Refused>
+) -> Result<(), FileRefusal>
     ensures done { OnOk result (PrintsPage config.now (outlet printing wires.now) intake.now (I.remaining input.old) (W.contents output.old) (W.contents output.new)) }
     ensures refused { IfErr result (λ e.
         WithholdsPage config.now (outlet printing wires.now) intake.now wires.now (I.remaining input.old) e (W.contents output.old) (W.contents output.new)) }
@@ -137,7 +137,7 @@ fn page_of<R: Threads + Wait + Clock + Sync + Files, I: Read, M: Write + IsTermi
     input: &mut I,
     screen: &mut M,
     why: &mut String,
-) -> Result<(Vec<u8>, Option<String>), Refused>
+) -> Result<(Vec<u8>, Option<String>), FileRefusal>
     ensures page { IfOk result (λ p. IsPage config.now (outlet printing wires.now) intake.now (I.remaining input.old) p.0.items) }
     ensures beside { IfOk result (λ p. streamed_port wires.now ≡ None → intake.now.reading.skip ≡ false → p.1 ≡ None) }
     ensures refused { IfErr result (λ e. HasNoPage config.now intake.now wires.now (I.remaining input.old) e) }

@@ -1,6 +1,7 @@
-//! The program `poll82599` as a library: it connects the command line with the commands, and runs the command `forward`.
-//! It depends on `command_line`, on all crates of commands, and on `forwarder`.
-//! Its contracts pin what each command line prints: the page of `forward` is that of a report of the given script, and a
+//! The program `poll82599` as a library: it connects the command line with the commands, and runs the command
+//! `forward`.
+//! Depends on `command_line`, on all crates of commands, and on `forwarder`.
+//! Guarantees what each command line prints: the page of `forward` is that of a report of the given script, and a
 //! refusal other than `Output` prints nothing.
 //!
 //! [`run`] runs the program on the words after its name. [`forward`] returns the page for an input and a configuration,
@@ -17,4 +18,4 @@ mod running;
 
 pub use answering::{answer, perform};
 pub use page::{forward, forward_script};
-pub use running::{MISUSED, run};
+pub use running::{EXIT_USAGE, run};

@@ -11,5 +11,5 @@ mod reading;
 mod showing;
 
 pub use calls::forward;
-pub use forward_io::{ProgressLine, Shown};
+pub use forward_io::{LiveTotals, ProgressLine};
 pub use requests::ProgressForm;

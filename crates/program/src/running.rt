@@ -12,7 +12,7 @@ ghost use Rattle.forward_io.specs.Intakes.{reads_script};
 ghost use Rattle.forward_io.specs.Streams.{outlet};
 ghost use Rattle.requests.specs.Files.{streamed_port};
 ghost use Rattle.settings.specs.declared.config.Config.{Config};
-ghost use Rattle.command_line.specs.Sayings.{IsUnshown, Says, Saying};
+ghost use Rattle.command_line.specs.ParsedCommands.{IsUnshown, Says, ParsedCommand};
 
 use crate::captured;
 use clap::error::ErrorKind;
@@ -20,7 +20,7 @@ use command_line::{Asked, asked_of, files_of};
 use commands::answer;
 use forward_io::captured::Intake;
 use forwarder::Config as ForwardConfig;
-use requests::{DONE, Printing as Printed, REFUSED, Refusal, refuse};
+use requests::{EXIT_REFUSED, EXIT_SUCCESS, Printing as Printed, Refusal, refuse};
 use std::alloc::Global;
 use std::io::{IsTerminal, Read, Write};
 use std::marker::Send;
@@ -30,7 +30,7 @@ use std::thread::Threads;
 use std::time::Clock;
 
 /// The exit status of a command line that is not valid.
-pub const MISUSED: u8 = 2;
+pub const EXIT_USAGE: u8 = 2;
 
 /// The option that explains refusals. On a terminal, they are explained without it.
 const EXPLAIN: &str = "--explain";
@@ -65,13 +65,13 @@ pub fn run<
     faults: &mut E,
     screen: &mut M,
 ) -> u8
-    ensures status { (result ≡ DONE) ⊎ (result ≡ REFUSED) ⊎ (result ≡ MISUSED) }
-    ensures done { result ≡ DONE → Keeps (E.contents faults.old) (E.contents faults.new) }
+    ensures status { (result ≡ EXIT_SUCCESS) ⊎ (result ≡ EXIT_REFUSED) ⊎ (result ≡ EXIT_USAGE) }
+    ensures done { result ≡ EXIT_SUCCESS → Keeps (E.contents faults.old) (E.contents faults.new) }
     ensures screen { IsUnshown (map string_bytes words.now) → screen.new ≡ screen.old }
-    ensures misused { result ≡ MISUSED → Keeps (W.contents output.old) (W.contents output.new) }
+    ensures misused { result ≡ EXIT_USAGE → Keeps (W.contents output.old) (W.contents output.new) }
     ensures misuse { IsMisuse (map string_bytes words.now)
-        → ((result ≡ MISUSED) ⊎ (result ≡ REFUSED)) × Keeps (W.contents output.old) (W.contents output.new) }
-    ensures ends { (saying : Saying) → Says (map string_bytes words.now) saying
+        → ((result ≡ EXIT_USAGE) ⊎ (result ≡ EXIT_REFUSED)) × Keeps (W.contents output.old) (W.contents output.new) }
+    ensures ends { (saying : ParsedCommand) → Says (map string_bytes words.now) saying
         → EndsSaid saying is_terminal (I.remaining input.old) result (W.contents output.old) (W.contents output.new) }
     ensures unread { (config : Config) (printing : Printing) (files : FileOptions) → SaysForward (map string_bytes words.now) config printing files
         → reads_script (intake_of files is_terminal) ≡ false → input.new ≡ input.old }
@@ -130,9 +130,9 @@ fn forward<
     screen: &mut M,
     explain: bool,
 ) -> u8
-    ensures status { (result ≡ DONE) ⊎ (result ≡ REFUSED) ⊎ (result ≡ MISUSED) }
-    ensures done { result ≡ DONE → Keeps (E.contents faults.old) (E.contents faults.new) }
-    ensures misused { result ≡ MISUSED → Keeps (W.contents output.old) (W.contents output.new) }
+    ensures status { (result ≡ EXIT_SUCCESS) ⊎ (result ≡ EXIT_REFUSED) ⊎ (result ≡ EXIT_USAGE) }
+    ensures done { result ≡ EXIT_SUCCESS → Keeps (E.contents faults.old) (E.contents faults.new) }
+    ensures misused { result ≡ EXIT_USAGE → Keeps (W.contents output.old) (W.contents output.new) }
     ensures screen { (said : Config) (shown : Printing) (files : FileOptions) → SaysForward (map string_bytes words.now) said shown files
         → printing.progress ≡ false → streamed_port files.wires ≡ None → files.reading.skip ≡ false → config.now.turns ≡ 0 → screen.new ≡ screen.old }
     ensures ends { (said : Config) (shown : Printing) (files : FileOptions) → SaysForward (map string_bytes words.now) said shown files
@@ -164,22 +164,22 @@ fn forward<
 
 /// Prints the help or the error of `clap`, and returns the status.
 fn tell<W: Write, E: Write>(error: &clap::Error, output: &mut W, faults: &mut E) -> u8
-    ensures status { (result ≡ DONE) ⊎ (result ≡ REFUSED) ⊎ (result ≡ MISUSED) }
-    ensures done { result ≡ DONE → Keeps (E.contents faults.old) (E.contents faults.new) }
-    ensures misused { result ≡ MISUSED → Keeps (W.contents output.old) (W.contents output.new) }
-    ensures mistake { IsMistake (kind_of error.now) → result ≡ MISUSED }
+    ensures status { (result ≡ EXIT_SUCCESS) ⊎ (result ≡ EXIT_REFUSED) ⊎ (result ≡ EXIT_USAGE) }
+    ensures done { result ≡ EXIT_SUCCESS → Keeps (E.contents faults.old) (E.contents faults.new) }
+    ensures misused { result ≡ EXIT_USAGE → Keeps (W.contents output.old) (W.contents output.new) }
+    ensures mistake { IsMistake (kind_of error.now) → result ≡ EXIT_USAGE }
     ensures memory { kind_of error.now ≡ OutOfMemory
-        → (result ≡ REFUSED) × Keeps (W.contents output.old) (W.contents output.new) }
+        → (result ≡ EXIT_REFUSED) × Keeps (W.contents output.old) (W.contents output.new) }
 {
     if error.kind() == ErrorKind::OutOfMemory {
         return refuse(faults, Refusal::Memory);
     }
     if error.use_stderr() {
         let _ = write!(faults, "{error}");
-        return MISUSED;
+        return EXIT_USAGE;
     }
     match write!(output, "{error}").and_then(|()| output.flush()) {
-        Ok(()) => DONE,
+        Ok(()) => EXIT_SUCCESS,
         Err(_) => refuse(faults, Refusal::Output),
     }
 }

@@ -2,9 +2,9 @@
 use Rattle.std.specs.Prelude.{◌≡◌, ◌⊎◌, ℕ, List, Option, Result, Ok, Err}
 use Rattle.std.specs.Io.KnownBytes.{Appends, Keeps}
 use Rattle.requests.specs.declared.refusal.Refusal.{Refusal}
-use Rattle.requests.specs.declared.answers.TheConstants.{DONE, REFUSED}
+use Rattle.requests.specs.declared.answers.TheConstants.{EXIT_SUCCESS, EXIT_REFUSED}
 
 -- how a command ends, by its result: the text is printed, or the command is refused; a refusal prints nothing
 abbrev pub EndsBy : Result (List ℕ) Refusal → ℕ → Option (List ℕ) → Option (List ℕ) → Type 0
-EndsBy (Ok text) status old new = ((status ≡ DONE) × Appends old new text) ⊎ (status ≡ REFUSED)
-EndsBy (Err refusal) status old new = (status ≡ REFUSED) × Keeps old new
+EndsBy (Ok text) status old new = ((status ≡ EXIT_SUCCESS) × Appends old new text) ⊎ (status ≡ EXIT_REFUSED)
+EndsBy (Err refusal) status old new = (status ≡ EXIT_REFUSED) × Keeps old new

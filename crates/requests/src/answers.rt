@@ -6,10 +6,10 @@ use crate::refusal::Refusal;
 use std::io::Write;
 
 /// The exit status of a request that succeeded.
-pub const DONE: u8 = 0;
+pub const EXIT_SUCCESS: u8 = 0;
 
 /// The exit status of a request that was refused.
-pub const REFUSED: u8 = 1;
+pub const EXIT_REFUSED: u8 = 1;
 
 /// Prints a text and flushes the output. Returns `Output` if that fails; part of the text may then be written.
 pub fn print<W: Write>(text: &str, output: &mut W) -> Result<(), Refusal>
@@ -30,7 +30,7 @@ pub fn put<W: Write>(bytes: &[u8], output: &mut W) -> Result<(), Refusal>
 
 /// Prints a refusal as one line, and returns its exit status. A failed write is ignored.
 pub fn refuse<E: Write>(faults: &mut E, refusal: Refusal) -> u8
-    ensures { result ≡ REFUSED }
+    ensures { result ≡ EXIT_REFUSED }
 {
     let number = refusal.number();
     let _ = match (refusal.line(), refusal.record()) {
@@ -38,13 +38,13 @@ pub fn refuse<E: Write>(faults: &mut E, refusal: Refusal) -> u8
         (None, Some(record)) => writeln!(faults, "record {record}: refused {number} {refusal}"),
         (None, None) => writeln!(faults, "refused {number} {refusal}"),
     };
-    REFUSED
+    EXIT_REFUSED
 }
 
 /// Prints a refusal as one line and, with `explain`, its explanation as a second one: `why`, or a general sentence if
 /// `why` is empty. Returns the exit status. Failed writes are ignored.
 pub fn refuse_explained<E: Write>(faults: &mut E, refusal: Refusal, why: &str, explain: bool) -> u8
-    ensures { result ≡ REFUSED }
+    ensures { result ≡ EXIT_REFUSED }
 {
     let status = refuse(faults, refusal);
     if explain {

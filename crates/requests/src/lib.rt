@@ -1,7 +1,8 @@
 //! What the program's commands are asked to do, and how they answer: the types that a command line is parsed into, the
 //! refusals, the exit statuses, and how texts and refusals are printed.
 //! Depends on `limits`, `refusals`, `ring_model`, `ring_machine`, `capture`, `settings`, `text_lines` and `thiserror`.
-//! Each word of a file and each form of a descriptor has one meaning or none, and each refusal has one number.
+//! Guarantees that each word of a file and each form of a descriptor has one meaning or none, and that each refusal has
+//! one number.
 //!
 //! A [`Request`] is for `once`, `decode` or `replay`, a [`CaptureRequest`] for `from-capture` or `to-capture`, and a
 //! [`ScheduleRequest`] or a [`CoverRequest`] for `schedules`. [`Printing`] says how `forward` prints its report, and
@@ -26,10 +27,10 @@ mod refusal;
 mod replay;
 mod request;
 
-pub use answers::{DONE, REFUSED, print, put, refuse, refuse_explained};
+pub use answers::{EXIT_REFUSED, EXIT_SUCCESS, print, put, refuse, refuse_explained};
 pub use conversion::CaptureRequest;
 pub use covers::CoverRequest;
-pub use decode::Form;
+pub use decode::DescriptorForm;
 pub use excerpt::Excerpt;
 pub use files::{Source, WireFile, names_input, names_output, source_of, wire_file_of};
 pub use input::read_text;
@@ -38,5 +39,5 @@ pub use lists::ScheduleRequest;
 pub use printing::{Printing, ProgressForm};
 pub use queues::explain_queues;
 pub use refusal::Refusal;
-pub use replay::{NOTES, PAGE, PAGE_DATA, Pictures, QueuePlan, Shown};
+pub use replay::{NOTES, PAGE, PAGE_DATA, Pictures, QueuePlan, ReplayOutput};
 pub use request::Request;

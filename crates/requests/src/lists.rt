@@ -1,6 +1,6 @@
 //! The lists that `schedules` prints.
 
-use crate::replay::Shown;
+use crate::replay::ReplayOutput;
 use settings::SchedulePlan;
 
 /// Lists of moves: the plan of each, the seed, the number of lists, and the text that follows each.
@@ -11,7 +11,7 @@ pub struct ScheduleRequest {
     pub count: u32,
     /// The form in which `replay` prints the outcome after each list; `None` for nothing. `PAGE` is a page with all
     /// lists.
-    pub expect: Option<Shown>,
+    pub expect: Option<ReplayOutput>,
 }
 
 impl ScheduleRequest {

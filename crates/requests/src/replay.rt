@@ -32,28 +32,28 @@ impl Pictures {
 /// The output for each move: its note as a line of words or as a JSON object, and, if selected, the registers and a
 /// picture of its queue after the move.
 #[derive(Clone, Copy)]
-pub struct Shown {
+pub struct ReplayOutput {
     pub json: bool,
     pub registers: bool,
     pub pictures: Pictures,
 }
 
 /// Notes only, as lines of words.
-pub const NOTES: Shown = Shown {
+pub const NOTES: ReplayOutput = ReplayOutput {
     json: false,
     registers: false,
     pictures: Pictures::Never,
 };
 
 /// The data of a page: notes and registers as objects, and states.
-pub const PAGE_DATA: Shown = Shown {
+pub const PAGE_DATA: ReplayOutput = ReplayOutput {
     json: true,
     registers: true,
     pictures: Pictures::States,
 };
 
 /// An HTML page with these data.
-pub const PAGE: Shown = Shown {
+pub const PAGE: ReplayOutput = ReplayOutput {
     json: true,
     registers: true,
     pictures: Pictures::Page,
@@ -71,5 +71,5 @@ pub struct QueuePlan {
     /// Whether a line `# end` ends a list: the count is printed, and the next list has fresh queues. Otherwise such a
     /// line is a comment.
     pub lists: bool,
-    pub shown: Shown,
+    pub shown: ReplayOutput,
 }

@@ -32,4 +32,4 @@ pub use supply::{BYTE, frame_of, spare_for, stock_for};
 pub use tally::Tally;
 pub use timing::{Timed, now, refuse, report, since};
 pub use track::{Parts, Track, Way};
-pub use words::{BatchPlan, Load, batch_plan, load_of, number_of, value_of, words_of};
+pub use words::{BatchPlan, Workload, batch_plan, load_of, number_of, value_of, words_of};

@@ -1,4 +1,6 @@
 //! The program `ring_bench`: the cost of a frame through a ring, and through the layers above the rings.
+//! Depends on the ring crates, `driver`, `controller` and `anyhow`.
+//! Guarantees what a measurement needs to call a ring, and nothing else.
 //!
 //! `rx` and `tx` measure a ring that two threads share, `batch` both drivers, and `pass` controllers and drivers. `kit`
 //! has their common parts.

@@ -1,6 +1,7 @@
 //! Step-by-step laws of `ring_model` for the proofs of machines and running rings: states, places, lists, frames,
-//! queues, schedules and rings. Depends on `ring_model` alone. Each law is a clause of a public function that does
-//! nothing.
+//! queues, schedules and rings.
+//! Depends on `ring_model` and `limits`.
+//! Guarantees each law as a clause of a public function that does nothing.
 //!
 //! The laws about whole rings are in `ring_model`. A file of `specs/` re-exports each clause's lemma under its name, so
 //! that a proof can cite it: a crate's `specs/` may not name its own `proofs/`, and a clause cannot be cited where

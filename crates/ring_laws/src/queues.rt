@@ -12,7 +12,7 @@ ghost use Rattle.ring_model.specs.shared.Agreement.{wanted_slot};
 /// controller serves and holds nothing, and the item was posted. Once the driver saw the disabling answered, the
 /// controller has ended and holds nothing.
 pub fn kept_queues_tell<Posted, Completed, Reaped>()
-    ensures shook { (n : ℕ) (ends : Completed → Bool) (q : Queue Posted Completed Reaped) → IsKept n ends q → ControlFits q.handshake.driver q.handshake.controller q.handshake.control q.handshake.seen }
+    ensures control_fits_of { (n : ℕ) (ends : Completed → Bool) (q : Queue Posted Completed Reaped) → IsKept n ends q → ControlFits q.handshake.driver q.handshake.controller q.handshake.control q.handshake.seen }
     ensures returned_completed { (n : ℕ) (ends : Completed → Bool) (q : Queue Posted Completed Reaped) → IsKept n ends q → is_serving q.handshake.controller ≡ true → returned_count q ≤ completed_count q }
     ensures held_below { (n : ℕ) (ends : Completed → Bool) (q : Queue Posted Completed Reaped) → IsKept n ends q → q.held ≡ true → completed_count q < posted_count q }
     ensures fetch_facts { (n : ℕ) (ends : Completed → Bool) (q : Queue Posted Completed Reaped) → IsKept n ends q → may q Fetch ≡ true → (is_serving q.handshake.controller ≡ true) × (q.held ≡ false) × (completed_count q < posted_count q) }

@@ -24,6 +24,6 @@ pub fn states_tell()
     ensures serving_unended { (c : ControllerState) → is_serving c ≡ true → is_ended c ≡ false }
     ensures on_serving { (d : DriverState) (c : ControllerState) (control : ℕ) (seen : ℕ) → is_on d ≡ true → ControlFits d c control seen → is_serving c ≡ true }
     ensures serving_unanswered { (d : DriverState) (c : ControllerState) (control : ℕ) (seen : ℕ) → is_serving c ≡ true → ControlFits d c control seen → is_answered d ≡ false }
-    ensures shakes_enable { (d : DriverState) (c : ControllerState) (control : ℕ) (seen : ℕ) → seen ≡ 1 → ControlFits d c control seen → ControlFits d Serving 2 2 × (is_open d ≡ true) }
-    ensures shakes_disable { (d : DriverState) (c : ControllerState) (control : ℕ) (seen : ℕ) → seen ≡ 3 → is_serving c ≡ true → ControlFits d c control seen → ControlFits d Ended 0 0 × (is_open d ≡ false) }
+    ensures control_steps_enable { (d : DriverState) (c : ControllerState) (control : ℕ) (seen : ℕ) → seen ≡ 1 → ControlFits d c control seen → ControlFits d Serving 2 2 × (is_open d ≡ true) }
+    ensures control_steps_disable { (d : DriverState) (c : ControllerState) (control : ℕ) (seen : ℕ) → seen ≡ 3 → is_serving c ≡ true → ControlFits d c control seen → ControlFits d Ended 0 0 × (is_open d ≡ false) }
 {}

@@ -10,7 +10,7 @@ use Rattle.ring_model.specs.declared.steps.RxStep.TheVariants as rx
 use Rattle.ring_model.specs.declared.steps.TxStep.{TxStep}
 use Rattle.ring_model.specs.declared.steps.TxStep.TheVariants as tx
 use Rattle.ring_model.specs.shared.Agreement.{Wrapped}
-use Rattle.ring_model.specs.shared.Handshakes.{is_cleared, is_live, is_new, is_on, is_open, is_serving, is_stopped, is_tailed, may_shake}
+use Rattle.ring_model.specs.shared.Handshakes.{is_cleared, is_live, is_new, is_on, is_open, is_serving, is_stopped, is_tailed, may_control_step}
 use Rattle.ring_model.specs.shared.Places.{place_next}
 use Rattle.ring_model.specs.transmit.Ring.{Posting}
 use Rattle.ring_model.specs.transmit.Steps.{by_head, is_there}
@@ -18,7 +18,7 @@ use Rattle.ring_machine.specs.declared.moves.Move.{Move}
 use Rattle.ring_machine.specs.declared.moves.Move.TheVariants.{Receive, Transmit}
 use Rattle.ring_machine.specs.declared.obstacle.Obstacle.{Obstacle}
 use Rattle.ring_machine.specs.declared.obstacle.Obstacle.TheVariants as obstacle
-use Rattle.ring_machine.specs.code.Obstacles.{answer_obstacle, fetch_obstacle, idle_obstacle, needs, or_never, or_none_there, out_obstacle, post_obstacle, queue_may, queue_obstacle, rx_obstacle, settled_obstacle, shake_obstacle, tx_obstacle, unless}
+use Rattle.ring_machine.specs.code.Obstacles.{answer_obstacle, fetch_obstacle, idle_obstacle, needs, or_never, or_none_there, out_obstacle, post_obstacle, queue_may, queue_obstacle, rx_obstacle, settled_obstacle, control_obstacle, tx_obstacle, unless}
 use Rattle.ring_machine.specs.code.Receive.{rx_may}
 use Rattle.ring_machine.specs.code.Shared.{are_all_back, can_fetch, can_post, is_idle, looks_settled}
 use Rattle.ring_machine.specs.code.Transmit.{oldest_place, tx_may}
@@ -81,16 +81,16 @@ answers-by serving settles false false disabling apart e = refl
 not_three : (n : ℕ) → (n == 1) ≡ true → (n == 3) ≡ false
 not_three n e = rw (eqb-true n 1 e) refl
 
-answers : (w : Wrapped ℕ) (rest : Option Obstacle) (r : Bool) → is_none rest ≡ r → is_none (answer_obstacle w rest) ≡ may_shake w.handshake Answer (looks_settled w && r)
+answers : (w : Wrapped ℕ) (rest : Option Obstacle) (r : Bool) → is_none rest ≡ r → is_none (answer_obstacle w rest) ≡ may_control_step w.handshake Answer (looks_settled w && r)
 answers w rest r e = answers-by (is_serving w.handshake.controller) (looks_settled w && r) (w.handshake.seen == 1) (w.handshake.seen == 3) (settled_obstacle w rest)
     (not_three w.handshake.seen) (settled w rest r e)
 
-shakes : (w : Wrapped ℕ) (c : ControlStep) (rest : Option Obstacle) (r : Bool) → is_none rest ≡ r → is_none (shake_obstacle w c rest) ≡ may_shake w.handshake c (looks_settled w && r)
-shakes w AskEnable rest r e = one (is_new w.handshake.driver) obstacle.NotNew
-shakes w LookAsked rest r e = refl
-shakes w Answer rest r e = answers w rest r e
-shakes w LookAnswered rest r e = refl
-shakes w AskDisable rest r e = one (is_on w.handshake.driver) obstacle.NotOn
+control_steps : (w : Wrapped ℕ) (c : ControlStep) (rest : Option Obstacle) (r : Bool) → is_none rest ≡ r → is_none (control_obstacle w c rest) ≡ may_control_step w.handshake c (looks_settled w && r)
+control_steps w AskEnable rest r e = one (is_new w.handshake.driver) obstacle.NotNew
+control_steps w LookAsked rest r e = refl
+control_steps w Answer rest r e = answers w rest r e
+control_steps w LookAnswered rest r e = refl
+control_steps w AskDisable rest r e = one (is_on w.handshake.driver) obstacle.NotOn
 
 and_true : (b : Bool) → (b && true) ≡ b
 and_true true = refl
@@ -104,7 +104,7 @@ rx_exact p rx.Fetch = fetches p.queue (needs (not p.still) obstacle.Quiet) (not 
 rx_exact p (rx.Store x eop) = one (not (is_none p.queue.held)) obstacle.NotHolding
 rx_exact p rx.Take = two (is_live p.queue.handshake.driver) (not (are_all_back p.queue)) obstacle.NotLive obstacle.NoneOut
 rx_exact p rx.Head = idle p.queue None true refl ∙ and_true (is_idle p.queue)
-rx_exact p (rx.Control c) = shakes p.queue c None true refl ∙ ap (may_shake p.queue.handshake c) (and_true (looks_settled p.queue))
+rx_exact p (rx.Control c) = control_steps p.queue c None true refl ∙ ap (may_control_step p.queue.handshake c) (and_true (looks_settled p.queue))
 rx_exact p rx.Reclaim = two (is_stopped p.queue.handshake.driver) (not (are_all_back p.queue)) obstacle.NotStopped obstacle.NoneOut
 rx_exact p rx.StoreQuiet = idle p.queue (needs p.queue.whole obstacle.MidFrame) p.queue.whole (one p.queue.whole obstacle.MidFrame)
 rx_exact p rx.LoadQuiet = refl
@@ -121,7 +121,7 @@ tx_exact p tx.Send = one (not (is_none p.queue.held)) obstacle.NotHolding
 tx_exact p tx.Report = one p.owed obstacle.NoReportDue
 tx_exact p tx.LoadReport = two (is_live p.queue.handshake.driver) (is_there (oldest_place p)) obstacle.NotLive obstacle.NoReportAwaited
 tx_exact p tx.Clean = two (is_live p.queue.handshake.driver) (not (p.queue.next == p.rep)) obstacle.NotLive obstacle.NotReported
-tx_exact p (tx.Control c) = shakes p.queue c (needs (not p.owed) obstacle.ReportDue) (not p.owed) (one (not p.owed) obstacle.ReportDue)
+tx_exact p (tx.Control c) = control_steps p.queue c (needs (not p.owed) obstacle.ReportDue) (not p.owed) (one (not p.owed) obstacle.ReportDue)
 tx_exact p tx.Reclaim = two (is_stopped p.queue.handshake.driver) (not (are_all_back p.queue)) obstacle.NotStopped obstacle.NoneOut
 tx_exact p tx.ClearHead = two (is_stopped p.queue.handshake.driver) (are_all_back p.queue) obstacle.NotStopped obstacle.SomeOut
 tx_exact p tx.ClearTail = one (is_cleared p.queue.handshake.driver) obstacle.NotCleared

@@ -3,6 +3,6 @@ pub mod PlaceTests
 pub mod Slots
 pub mod Telling
 pub mod Fitting
-pub mod Shaking
+pub mod ControlStepping
 pub mod Running
 pub mod Owning

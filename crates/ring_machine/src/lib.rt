@@ -1,7 +1,7 @@
 //! Receive and transmit queues of the 82599 as pure machines, with words and slots by place, and places that wrap.
-//! Depends on `ring_model`, whose types it re-exports, and on `limits`, `refusals`, `arrayvec` and `text_lines`. A
-//! machine that agrees with a ring of `ring_model` agrees, after any schedule, with the ring after that schedule, and
-//! so do queues side by side with their world.
+//! Depends on `ring_model`, whose types it re-exports, `ring_laws`, `limits`, `refusals`, `arrayvec` and `text_lines`.
+//! Guarantees that a machine that agrees with a ring of `ring_model` agrees, after any schedule, with the ring after
+//! that schedule, and so do queues side by side with their world.
 //!
 //! One core of places, words and slots serves both directions. Each move has one line of text, which is printed and
 //! read. [`Queues::obstacle`] says why a move is not enabled.

@@ -1,6 +1,6 @@
 pub mod Places
 pub mod Beginnings
-pub mod Shakes
+pub mod ControlSteps
 pub mod Orders
 pub mod Owners
 pub mod Stepping

@@ -22,7 +22,7 @@ pub struct Handshake {
 }
 
 impl Handshake {
-    ghost use Rattle.ring_model.specs.shared.Handshakes.{can_enable, control_value, disable, enable, first_handshake, may_shake, shaken};
+    ghost use Rattle.ring_model.specs.shared.Handshakes.{can_enable, control_value, disable, enable, first_handshake, may_control_step, after_control_step};
 
     /// Returns the handshake of a new queue: enabled and seen enabled on both sides, or never enabled.
     pub fn first(enabled: bool) -> Handshake
@@ -53,8 +53,8 @@ impl Handshake {
     }
 
     /// Whether this step can happen. `settled` says whether a disabling may be answered now.
-    pub fn may_shake(self, step: ControlStep, settled: bool) -> bool
-        ensures { result ≡ may_shake self step settled }
+    pub fn may_control_step(self, step: ControlStep, settled: bool) -> bool
+        ensures { result ≡ may_control_step self step settled }
     {
         match step {
             ControlStep::AskEnable => self.driver.is_new(),
@@ -79,8 +79,8 @@ impl Handshake {
     }
 
     /// Returns the handshake after this step, assuming that it can happen.
-    pub fn shaken(self, step: ControlStep) -> Handshake
-        ensures { result ≡ shaken self step }
+    pub fn after_control_step(self, step: ControlStep) -> Handshake
+        ensures { result ≡ after_control_step self step }
     {
         match step {
             ControlStep::AskEnable => Handshake {

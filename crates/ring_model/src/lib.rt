@@ -1,6 +1,7 @@
 //! Receive and transmit queues of the 82599 as plain data: segments and frames, rings, their atomic steps, and what
-//! every schedule of steps preserves. Depends on `limits` alone. The laws hold for every ring that a schedule reaches;
-//! they are contracts of functions that do nothing.
+//! every schedule of steps preserves.
+//! Depends on `limits`.
+//! Guarantees laws that hold for every ring that a schedule reaches; they are contracts of functions that do nothing.
 //!
 //! The pure machines and the running rings use the same definitions, which are in `specs/`: `shared` for both
 //! directions, `receive` and `transmit` for one, `Worlds` for queues side by side, `NoteTexts` for the texts of notes,

@@ -280,7 +280,7 @@ macro_rules! asked {
 /// Makes a step of the handshake by a call, if its condition holds. For a struct with fields `ring`, `driver` and
 /// `controller` and a method `answer`.
 #[macro_export]
-macro_rules! shake {
+macro_rules! control_step {
     ($both:expr, $step:expr) => {
         match $step {
             ControlStep::AskEnable if $both.driver.is_new() => {

@@ -1,6 +1,8 @@
 //! Tests of queues: machines and their texts against worked rows, and the running rings on threads and by calls.
-//! Depends on `ring_machine`, `rx_ring`, `tx_ring` and the crates below them. The tests have a crate of their own so that
-//! those below are proved without tests.
+//! Depends on `ring_machine`, `rx_ring`, `tx_ring` and the crates below them.
+//! Guarantees what a test needs to call a ring, and nothing else.
+//!
+//! The tests have a crate of their own so that those below are proved without tests.
 //!
 //! The public items are tools that `layer_tests` uses too: random numbers, frames with recognizable bytes, counted
 //! buffers, a running ring beside its pure machine, rows of steps with expected results, and a controller's end that

@@ -5,14 +5,14 @@ pub trait Tells {
     /// A step.
     type Step: Copy;
     /// The result of a step.
-    type Told: Copy + PartialEq;
+    type Expected: Copy + PartialEq;
 
     /// Makes the step, as far as it can be made, and returns its result.
-    fn make(&mut self, step: Self::Step) -> Self::Told;
+    fn make(&mut self, step: Self::Step) -> Self::Expected;
 }
 
 /// Makes the steps of the rows up to the first whose result differs. Returns the number of rows that agreed.
-pub fn told_so<T: Tells>(tells: &mut T, rows: &[(T::Step, T::Told)]) -> usize {
+pub fn told_so<T: Tells>(tells: &mut T, rows: &[(T::Step, T::Expected)]) -> usize {
     let mut count = 0usize;
     for (step, wanted) in rows {
         if tells.make(*step) != *wanted {

@@ -61,8 +61,8 @@ module _ (c : ControllerSide) (at : ControllerPlaces) (head : ℕ) (finished : B
     holds : at.holding ≡ true
     holds = h.held_is ∙ some-there x.held buf.number (ap held_number was ∙ held)
 
-    pub some-free : 0 < at.ahead
-    some-free = h.held_ahead holds
+    pub some-free : 0 < at.available
+    some-free = h.held_available holds
 
     pub holder-serves : is_serving (controller_state c) ≡ true
     holder-serves = h.held_serving holds
@@ -71,8 +71,8 @@ module _ (c : ControllerSide) (at : ControllerPlaces) (head : ℕ) (finished : B
     segment-is = ap (λ (e : Bool). let s : Segment Bytes = record { number = buf.number; payload = buf.bytes; eop = e } in s) (eop_of-rx_word (length buf.bytes) eop)
 
     pub write_back-keeps : (new : ControllerSide) (serve : ℕ) → new ≡ controller_grown c (controller.Own (WroteBack at.serve (rx_word (length buf.bytes) eop) buf)) → serve ≡ (if (at.serve + 1) == controller_size c then 0 else (at.serve + 1))
-        → IsControllerEnd new (record at { serve = serve; ahead = at.ahead - 1; holding = false; between = eop }) head finished
-    write_back-keeps new serve step e = end-after c new (controller.Own (WroteBack at.serve (rx_word (length buf.bytes) eop) buf)) (record at { serve = serve; ahead = at.ahead - 1; holding = false; between = eop }) head finished step (record {
+        → IsControllerEnd new (record at { serve = serve; available = at.available - 1; holding = false; at_frame_end = eop }) head finished
+    write_back-keeps new serve step e = end-after c new (controller.Own (WroteBack at.serve (rx_word (length buf.bytes) eop) buf)) (record at { serve = serve; available = at.available - 1; holding = false; at_frame_end = eop }) head finished step (record {
       server = server-completed piece_of (controller_size c) x at h.server (segment_of (rx_word (length buf.bytes) eop) buf) serve eop holds e (sym (eop_of-rx_word (length buf.bytes) eop)) x.head x.barred;
       head_is = h.head_is;
       quiet_is = h.quiet_is;

@@ -9,9 +9,9 @@ use Rattle.ring_model.specs.shared.Agreement.{bit}
 use Rattle.shared_ring.specs.declared.ends.DriverPlaces.{DriverPlaces}
 use Rattle.shared_ring.specs.declared.ends.HandshakeStep.{HandshakeStep}
 use Rattle.shared_ring.specs.declared.events.DriverEvent.TheVariants as driver
-use Rattle.shared_ring.specs.Calls.{MayShake, shake_event, shaken}
+use Rattle.shared_ring.specs.Calls.{MayControlStep, control_event, after_control_step}
 use Rattle.shared_ring.specs.Records.{undriven}
-use Rattle.shared_ring.proofs.Posting.{record-after, known-after, anew, poster-anew, poster-post, poster-back, poster-shaken, poster-published, shaken-record, shaken-known}
+use Rattle.shared_ring.proofs.Posting.{record-after, known-after, anew, poster-anew, poster-post, poster-back, poster-control_stepped, poster-published, control_stepped-record, control_stepped-known}
 use Rattle.rx_ring.specs.declared.events.RxDriverOwn.TheVariants.{NotDone, Taken, LoadedQuiet}
 use Rattle.rx_ring.specs.Records.{RxDriven, DriverStep, drive, segment_of, Knowing, unknown, know}
 use Rattle.rx_ring.specs.Ends.{DriverSide, driver_size, driver_record, driver_state, known_of, driver_grown}
@@ -28,8 +28,8 @@ pub end-anew : (n published : ℕ) → IsRingLength n → IsEndOf n (record { po
 end-anew n published lawful = record { poster = poster-anew n published lawful; sure = λ a. absurd (false≢true a) }
 
 module _ (n : ℕ) (x : RxDriven) (k : Knowing) (at : DriverPlaces) (h : IsEndOf n x k at) where
-  pub end-shaken : (step : HandshakeStep) (w : ℕ) → MayShake step x.state → IsEndOf n (record x { state = shaken step x.state w }) k (record at { state = shaken step at.state w })
-  end-shaken step w may = record { poster = poster-shaken n x at h.poster step w may; sure = h.sure }
+  pub end-control_stepped : (step : HandshakeStep) (w : ℕ) → MayControlStep step x.state → IsEndOf n (record x { state = after_control_step step x.state w }) k (record at { state = after_control_step step at.state w })
+  end-control_stepped step w may = record { poster = poster-control_stepped n x at h.poster step w may; sure = h.sure }
 
   pub end-published : (published : ℕ) → IsEndOf n (record x { published = published }) k at
   end-published published = record { poster = poster-published n x at h.poster published; sure = h.sure }
@@ -53,11 +53,11 @@ module _ (n : ℕ) (x : RxDriven) (k : Knowing) (at : DriverPlaces) (h : IsEndOf
   }
 
 -- C1, C4, C5
-pub end-shake : (d new : DriverSide) (at : DriverPlaces) (step : HandshakeStep) (w : ℕ) → new ≡ driver_grown d (shake_event step w) → MayShake step (driver_state d) → IsDriverEnd d at → IsDriverEnd new (record at { state = shaken step at.state w })
-end-shake d new at step w is may h = end-after d new (shake_event step w) (record at { state = shaken step at.state w }) is
-    (subst (λ (x : RxDriven). IsEndOf (driver_size d) x (know (driver_record d) (known_of d) (shake_event step w)) (record at { state = shaken step at.state w })) (sym (shaken-record d step w))
-    (subst (λ (k : Knowing). IsEndOf (driver_size d) (record (driver_record d) { state = shaken step (driver_state d) w }) k (record at { state = shaken step at.state w })) (sym (shaken-known d step w))
-    (end-shaken (driver_size d) (driver_record d) (known_of d) at h step w may)))
+pub end-control_step : (d new : DriverSide) (at : DriverPlaces) (step : HandshakeStep) (w : ℕ) → new ≡ driver_grown d (control_event step w) → MayControlStep step (driver_state d) → IsDriverEnd d at → IsDriverEnd new (record at { state = after_control_step step at.state w })
+end-control_step d new at step w is may h = end-after d new (control_event step w) (record at { state = after_control_step step at.state w }) is
+    (subst (λ (x : RxDriven). IsEndOf (driver_size d) x (know (driver_record d) (known_of d) (control_event step w)) (record at { state = after_control_step step at.state w })) (sym (control_stepped-record d step w))
+    (subst (λ (k : Knowing). IsEndOf (driver_size d) (record (driver_record d) { state = after_control_step step (driver_state d) w }) k (record at { state = after_control_step step at.state w })) (sym (control_stepped-known d step w))
+    (end-control_stepped (driver_size d) (driver_record d) (known_of d) at h step w may)))
 
 pub end-fresh : (n : ℕ) → IsRingLength n → IsEndOf n undriven unknown (anew n)
 end-fresh n lawful = end-anew n 0 lawful

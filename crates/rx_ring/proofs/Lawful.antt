@@ -22,7 +22,7 @@ use Rattle.ring_laws.specs.Rings.{rx_lawful}
 use Rattle.ring_laws.specs.Lists.{next_number, number_at}
 use Rattle.ring_laws.specs.Frames.{follows_next}
 use Rattle.ring_laws.specs.States.{live_unanswered, stopped_answered, answered_closed, stopped_full}
-use Rattle.ring_laws.specs.Queues.{shook, fetch_facts, held_below, returned_completed, answered_has_ended, answered_unheld}
+use Rattle.ring_laws.specs.Queues.{control_fits_of, fetch_facts, held_below, returned_completed, answered_has_ended, answered_unheld}
 use Rattle.shared_ring.specs.declared.events.DriverEvent.TheVariants as driver
 use Rattle.shared_ring.specs.declared.events.ControllerEvent.TheVariants as controller
 use Rattle.shared_ring.specs.Directions.{IsDirection, DriverMay, ControllerMay, Agrees, TakesOut, Fetches}
@@ -33,7 +33,7 @@ use Rattle.shared_ring.proofs.Controlling.{of-serving, of-completed, of-known, o
 use Rattle.shared_ring.proofs.Items.{fetch_laid_out}
 use Rattle.shared_ring.proofs.Placing.{left-laid_out}
 use Rattle.shared_ring.proofs.Laying.{set-same, home-full, unheld_item, index_there}
-use Rattle.shared_ring.proofs.Shaking.{control_value}
+use Rattle.shared_ring.proofs.ControlStepping.{control_value}
 use Rattle.rx_ring.specs.Form as form
 use Rattle.rx_ring.specs.Form.{AreOf}
 use Rattle.rx_ring.specs.Plays.{takes, finds_none, is_done}
@@ -71,7 +71,7 @@ module _ (n : ℕ) (mode : Completion) (ok : mode ≡ Status) (q : RxRing Bytes)
 
   control-value : slice_index words (n + 2) ≤ 3
   control-value = let m = l.laid_out in let r = m.registers in let e = r.control in let k = keeps_it n q ds cs words homes pos l in
-      let v = control_value q.handshake.driver q.handshake.controller q.handshake.control q.handshake.seen (shook n ends_segment q.queue k.queue) in omega arith
+      let v = control_value q.handshake.driver q.handshake.controller q.handshake.control q.handshake.seen (control_fits_of n ends_segment q.queue k.queue) in omega arith
 
   module _ (p : ℕ) (at : p ≡ (length d.reaped + d.reclaimed) % n) (more : length d.reaped + d.reclaimed < length d.posted) where
     place : p ≡ returned_count q.queue % n

@@ -23,8 +23,8 @@ use Rattle.ring_model.specs.kept.Receive.{IsRxKept}
 use Rattle.ring_laws.specs.Rings.{rx_kept, rx_kept-opening}
 use Rattle.ring_laws.specs.Frames.{AllFollow-nil, AllFollow-snoc}
 use Rattle.ring_laws.specs.Schedules.{reached-changed, reached-opening}
-use Rattle.ring_laws.specs.States.{live_unanswered, open_unanswered, shakes-enable, tailed_emptied, emptied_answered}
-use Rattle.ring_laws.specs.Queues.{shook, answered_has_ended}
+use Rattle.ring_laws.specs.States.{live_unanswered, open_unanswered, control_steps-enable, tailed_emptied, emptied_answered}
+use Rattle.ring_laws.specs.Queues.{control_fits_of, answered_has_ended}
 use Rattle.shared_ring.specs.declared.events.DriverEvent.TheVariants as driver
 use Rattle.shared_ring.specs.declared.events.ControllerEvent.TheVariants as controller
 use Rattle.shared_ring.specs.Records.{uncontrolled, undriven}
@@ -32,7 +32,7 @@ use Rattle.shared_ring.specs.LaidOut.{driven, IsControlled, IsLaidOutIn}
 use Rattle.shared_ring.proofs.Laying.{at_zero}
 use Rattle.shared_ring.proofs.Folds.{driving-snoc, controlling-snoc}
 use Rattle.shared_ring.proofs.Placing.{laid_out-post, laid_out-publish, laid_out-look, laid_out-fetch, laid_out-complete, laid_out-head, laid_out-reap, laid_out-reclaim, laid_out-ask_enable, laid_out-ask_disable, laid_out-look_asked, laid_out-look_answered, laid_out-enable, laid_out-disable, laid_out-clear_head, laid_out-clear_tail, laid_out-renew, laid_out-quiet}
-use Rattle.shared_ring.proofs.Shaking.{early_enabling}
+use Rattle.shared_ring.proofs.ControlStepping.{early_enabling}
 use Rattle.shared_ring.proofs.Controlling.{ctl-post, ctl-publish, ctl-reap, ctl-reclaim, ctl-ask_enable, ctl-look_answered, ctl-ask_disable, ctl-clear_head, ctl-clear_tail, ctl-renew, ctl-look, ctl-fetch, ctl-complete, ctl-head, ctl-look_asked, ctl-enable, ctl-disable, ctl-bar}
 use Rattle.rx_ring.specs.declared.events.RxDriverOwn.TheVariants.{NotDone, Taken, LoadedQuiet, ClearedQuiet}
 use Rattle.rx_ring.specs.declared.events.RxControllerOwn.TheVariants.{WroteBack, SaidQuiet}
@@ -306,10 +306,10 @@ module _ (n : ℕ) (q : RxRing Bytes) (ds : List DriverStep) (cs : List Controll
 
   pub enable-laid_out : q.handshake.seen ≡ 1 → is_serving q.handshake.controller ≡ false → IsLaidOutAs n enabled ds (cs ++ controller.Enabled ∷ []) (slice_set words (n + 2) 2) homes
   enable-laid_out seen idle = let k = keeps_it in let h = q.handshake in let m = l.laid_out in let can : can_enable h ≡ true = and_from _ _ (eq-eqb h.seen 1 seen) (ap not idle) in let may = or_left (can_enable h) (can_disable h && rx_settled q) can in
-      let opened = shakes-enable h.driver h.controller h.control h.seen seen (shook n ends_segment q.queue k.queue) in record {
+      let opened = control_steps-enable h.driver h.controller h.control h.seen seen (control_fits_of n ends_segment q.queue k.queue) in record {
         reachable = subst (λ (r : RxRing Bytes). IsRxReachable Bytes n r) (enabled-is can) (goes_on (rx.Control Answer) may);
         driver = l.driver;
-        controller = control_is enabled controller.Enabled (ctl-enable word_of_item buffer_of_item ends_segment n q.queue k.queue q.still c l.controller idle opened.1 (m.cleared (early_enabling h.driver h.controller h.control h.seen seen (shook n ends_segment q.queue k.queue) opened.1) idle));
+        controller = control_is enabled controller.Enabled (ctl-enable word_of_item buffer_of_item ends_segment n q.queue k.queue q.still c l.controller idle opened.1 (m.cleared (early_enabling h.driver h.controller h.control h.seen seen (control_fits_of n ends_segment q.queue k.queue) opened.1) idle));
         laid_out = laid_out-enable word_of_item buffer_of_item ends_segment n (n + 4) q.queue k.queue q.quiet words homes l.laid_out big;
         follow = l.follow;
         learnt = subst (λ (r : RxRing Bytes). Learnt n r x) (enabled-is can) (learnt-step n q keeps_it x l.learnt (rx.Control Answer) may refl refl);

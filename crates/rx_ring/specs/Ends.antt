@@ -5,7 +5,7 @@ use Rattle.buffer_pool.specs.Buffer.{Buffer}
 use Rattle.shared_ring.specs.Ends as ends
 use Rattle.rx_ring.specs.Form.{rx}
 use Rattle.rx_ring.specs.Records.{knowing}
-pub use Rattle.shared_ring.specs.Ends.{driver_size, driver_record, posted, published, reclaimed, returned, driver_state, known_of, fill_place, next_place, driver_grown, controller_size, controller_record, held, controller_state, is_between, seen, head_stored, serve_place, controller_grown, reaped as taken, completed as stored, known_ahead as known_free, is_barred as is_quiet}
+pub use Rattle.shared_ring.specs.Ends.{driver_size, driver_record, posted, published, reclaimed, returned, driver_state, known_of, fill_place, next_place, driver_grown, controller_size, controller_record, held, controller_state, is_at_frame_end, seen, head_stored, serve_place, controller_grown, reaped as taken, completed as stored, known_ahead as known_free, is_barred as is_quiet}
 
 abbrev pub DriverSide : Type 0
 DriverSide = ends.DriverSide rx

@@ -8,7 +8,7 @@ ghost use Rattle.ring_model.specs.shared.Frames.{Follows, unfinished};
 ghost use Rattle.ring_model.specs.shared.Handshakes.{is_serving};
 ghost use Rattle.shared_ring.specs.declared.events.ControllerEvent.TheVariants.{StoredHead, Own};
 ghost use Rattle.rx_ring.specs.declared.events.RxControllerOwn.TheVariants.{WroteBack, SaidQuiet};
-ghost use Rattle.rx_ring.specs.Ends.{controller_size, controller_record, stored, known_free, held, held_number, controller_state, is_quiet, is_between, serve_place, controller_grown};
+ghost use Rattle.rx_ring.specs.Ends.{controller_size, controller_record, stored, known_free, held, held_number, controller_state, is_quiet, is_at_frame_end, serve_place, controller_grown};
 ghost use Rattle.shared_ring.specs.Ends.{controller_of, controller_side};
 ghost use Rattle.rx_ring.specs.Form.{rx};
 ghost use Rattle.rx_ring.specs.Calls.{IsFreshController, Fetched, segment};
@@ -68,7 +68,7 @@ impl RxControllerEnd {
     pub fn free(&self) -> u32
         ensures { result ≡ known_free self.now }
     {
-        self.at.ahead as u32
+        self.at.available as u32
     }
 
     /// Loads the next descriptor and takes its empty buffer.
@@ -99,9 +99,9 @@ impl RxControllerEnd {
     {
         steps::write_back(&mut self.seat, &ring.0, self.at.serve, buf, eop);
         self.at.serve = place_after(self.at.serve, self.at.size);
-        self.at.ahead -= 1;
+        self.at.available -= 1;
         self.at.holding = false;
-        self.at.between = eop;
+        self.at.at_frame_end = eop;
     }
 
     /// Stores the head (RDH): the place after the last stored segment.
@@ -133,7 +133,7 @@ impl RxControllerEnd {
         requires own { self.old.table ≡ ring.now }
         requires serving { is_serving (controller_state self.old) ≡ true }
         requires held { held self.old ≡ None }
-        requires between { is_between self.old ≡ true }
+        requires at_frame_end { is_at_frame_end self.old ≡ true }
         ensures step { self.new ≡ controller_grown self.old (Own SaidQuiet) }
         ensures record { controller_record self.new ≡ record (controller_record self.old) { barred = true } }
     {
@@ -155,7 +155,7 @@ impl ControllerEnd<RxDriverOwn, RxControllerOwn, RxRule> for RxControllerEnd {
     #[inline]
     fn is_settled(&self) -> bool {
         let at = self.at;
-        at.state.is_serving() && !at.holding && at.between && self.head == at.serve
+        at.state.is_serving() && !at.holding && at.at_frame_end && self.head == at.serve
     }
 
     #[inline]

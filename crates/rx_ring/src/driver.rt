@@ -187,7 +187,7 @@ impl DriverEnd<RxDriverOwn, RxControllerOwn, RxRule> for RxDriverEnd {
     }
 
     #[inline]
-    fn shake(&mut self, ring: &RxRing, step: HandshakeStep) -> Control {
-        self.seat.shake(&ring.0, step, &mut self.at.state)
+    fn control_step(&mut self, ring: &RxRing, step: HandshakeStep) -> Control {
+        self.seat.control_step(&ring.0, step, &mut self.at.state)
     }
 }

@@ -7,7 +7,7 @@ use Rattle.std.proofs.lemmas.List.{append-nil}
 use Rattle.std.proofs.lemmas.List.Concat.{flat_map-append}
 use Rattle.std.proofs.lemmas.List.Elements.{All-append, All-cons, All-nil}
 use Rattle.commands.specs.Replay.{HasPage}
-use Rattle.requests.specs.declared.replay.Shown.{Shown}
+use Rattle.requests.specs.declared.replay.ReplayOutput.{ReplayOutput}
 use Rattle.schedules.specs.Drawing.{IsDrawn}
 use Rattle.schedules.specs.declared.drawing.Drawn.{Drawn}
 use Rattle.schedule_command.specs.Lists.{AreShown, Follows, IsPrinted, IsShown, PrintsLists, joined, list_text, queues_of}
@@ -19,17 +19,17 @@ printed-alone r list text none drawn is = record {
   list = list;
   drawn = drawn;
   more = [];
-  follows = subst (λ (e : Option Shown). Follows e (queues_of r) (list_text list) []) (sym none) refl;
+  follows = subst (λ (e : Option ReplayOutput). Follows e (queues_of r) (list_text list) []) (sym none) refl;
   text_is = is ∙ sym (append-nil (list_text list));
 }
 
-pub printed-with : (r : ScheduleRequest) (list : List Drawn) (form : Shown) (more text : List ℕ) → r.expect ≡ Some form → IsDrawn r.plan list
+pub printed-with : (r : ScheduleRequest) (list : List Drawn) (form : ReplayOutput) (more text : List ℕ) → r.expect ≡ Some form → IsDrawn r.plan list
     → HasPage (queues_of r form) (list_text list) more → text ≡ list_text list ++ more → IsPrinted r text
 printed-with r list form more text some drawn has is = record {
   list = list;
   drawn = drawn;
   more = more;
-  follows = subst (λ (e : Option Shown). Follows e (queues_of r) (list_text list) more) (sym some) has;
+  follows = subst (λ (e : Option ReplayOutput). Follows e (queues_of r) (list_text list) more) (sym some) has;
   text_is = is;
 }
 

@@ -8,19 +8,19 @@ use Rattle.ring_machine.specs.text.Moves.{text_of}
 use Rattle.commands.specs.Page.{page_of}
 use Rattle.commands.specs.Replay.{HasPage, RefusesReplay}
 use Rattle.requests.specs.Replaying.{is_page}
-use Rattle.requests.specs.declared.answers.TheConstants.{DONE, REFUSED}
+use Rattle.requests.specs.declared.answers.TheConstants.{EXIT_SUCCESS, EXIT_REFUSED}
 use Rattle.requests.specs.declared.refusal.Refusal.{Refusal}
 use Rattle.requests.specs.declared.refusal.Refusal.TheVariants as refusal
 use Rattle.requests.specs.Lists.{shows_page}
 use Rattle.requests.specs.declared.replay.QueuePlan.{QueuePlan}
-use Rattle.requests.specs.declared.replay.Shown.{Shown}
+use Rattle.requests.specs.declared.replay.ReplayOutput.{ReplayOutput}
 use Rattle.requests.specs.declared.replay.TheConstants.{PAGE_DATA}
 use Rattle.schedules.specs.Drawing.{IsDrawn}
 use Rattle.schedules.specs.declared.drawing.Drawn.{Drawn}
 use Rattle.requests.specs.declared.lists.ScheduleRequest.{ScheduleRequest}
 
 -- The queues that the lists are drawn for, as `replay` makes them, and the form of its output.
-abbrev pub queues_of : ScheduleRequest → Shown → QueuePlan
+abbrev pub queues_of : ScheduleRequest → ReplayOutput → QueuePlan
 queues_of r form = record { pairs = r.plan.pairs; ring = r.plan.ring; enabled = r.plan.enabled; completion = r.plan.completion; lists = false; shown = form }
 
 -- Each move on its own line.
@@ -32,7 +32,7 @@ abbrev pub list_text : List Drawn → List ℕ
 list_text l = move_lines l ++ codes "# end\n"
 
 -- The text after a list: the output of `replay` for it in this form, or nothing.
-abbrev pub Follows : Option Shown → (Shown → QueuePlan) → List ℕ → List ℕ → Type 0
+abbrev pub Follows : Option ReplayOutput → (ReplayOutput → QueuePlan) → List ℕ → List ℕ → Type 0
 Follows (Some form) queues list more = HasPage (queues form) list more
 Follows None queues list more = more ≡ []
 
@@ -53,7 +53,7 @@ NotDrawn r e = ⊥
 
 -- Why it was not printed: it was not drawn, or `replay` refuses its text.
 abbrev pub NotPrinted : ScheduleRequest → Refusal → Type 0
-NotPrinted r e = NotDrawn r e ⊎ ((form : Shown) × (l : List Drawn) × IsDrawn r.plan l × RefusesReplay (queues_of r form) (Some (list_text l)) e)
+NotPrinted r e = NotDrawn r e ⊎ ((form : ReplayOutput) × (l : List Drawn) × IsDrawn r.plan l × RefusesReplay (queues_of r form) (Some (list_text l)) e)
 
 -- The texts, one after another.
 abbrev pub joined : List (List ℕ) → List ℕ
@@ -100,6 +100,6 @@ Refuses r e = NotPrinted r e ⊎ (e ≡ refusal.Output)
 -- The end of `schedules`: its lists are printed, or it is refused. If the queues cannot exist and there is a list to
 -- draw, it is refused with nothing printed.
 pub record EndsSchedules (r : ScheduleRequest) (status : ℕ) (old new : Option (List ℕ)) : Type 0 where
-  pub done : status ≡ DONE → Prints r old new
-  pub either : (status ≡ DONE) ⊎ (status ≡ REFUSED)
-  pub no_queues : ¬ (AreQueues r.plan.pairs r.plan.ring) → 1 ≤ r.count → (status ≡ REFUSED) × Keeps old new
+  pub done : status ≡ EXIT_SUCCESS → Prints r old new
+  pub either : (status ≡ EXIT_SUCCESS) ⊎ (status ≡ EXIT_REFUSED)
+  pub no_queues : ¬ (AreQueues r.plan.pairs r.plan.ring) → 1 ≤ r.count → (status ≡ EXIT_REFUSED) × Keeps old new

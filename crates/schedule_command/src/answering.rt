@@ -2,13 +2,13 @@
 ghost use Rattle.std.specs.Prelude.{◌≡◌, ◌≤◌, ◌⊎◌, IfErr, IfOk, IsErr, OnOk};
 ghost use Rattle.std.specs.Io.KnownBytes.{Keeps};
 ghost use Rattle.std.specs.String.{string_bytes};
-ghost use Rattle.requests.specs.declared.answers.TheConstants.{DONE, REFUSED};
+ghost use Rattle.requests.specs.declared.answers.TheConstants.{EXIT_SUCCESS, EXIT_REFUSED};
 ghost use Rattle.ring_machine.specs.Queues.{AreQueues};
 ghost use Rattle.schedule_command.specs.Lists.{AreShown, NotPrinted, Prints, PrintsLists, PrintsPage, Refuses};
 
 use crate::listing::{content_of, list_of};
 use commands::page_with;
-use requests::{DONE, Refusal, ScheduleRequest, explain_queues, print, refuse_explained};
+use requests::{EXIT_SUCCESS, Refusal, ScheduleRequest, explain_queues, print, refuse_explained};
 use ring_machine::MachineError;
 use std::alloc::Global;
 use std::io::Write;
@@ -23,14 +23,14 @@ pub fn answer<W: Write, E: Write>(
     faults: &mut E,
     explain: bool,
 ) -> u8
-    ensures status { (result ≡ DONE) ⊎ (result ≡ REFUSED) }
-    ensures done { result ≡ DONE → Keeps (E.contents faults.old) (E.contents faults.new) }
-    ensures prints { result ≡ DONE → Prints request.now (W.contents output.old) (W.contents output.new) }
+    ensures status { (result ≡ EXIT_SUCCESS) ⊎ (result ≡ EXIT_REFUSED) }
+    ensures done { result ≡ EXIT_SUCCESS → Keeps (E.contents faults.old) (E.contents faults.new) }
+    ensures prints { result ≡ EXIT_SUCCESS → Prints request.now (W.contents output.old) (W.contents output.new) }
     ensures no_queues { ¬ (AreQueues request.now.plan.pairs request.now.plan.ring) → 1 ≤ request.now.count
-        → (result ≡ REFUSED) × Keeps (W.contents output.old) (W.contents output.new) }
+        → (result ≡ EXIT_REFUSED) × Keeps (W.contents output.old) (W.contents output.new) }
 {
     match perform(alloc, request, output) {
-        Ok(()) => DONE,
+        Ok(()) => EXIT_SUCCESS,
         Err(refusal) => refuse_request(alloc, faults, request, refusal, explain),
     }
 }
@@ -43,7 +43,7 @@ fn refuse_request<E: Write>(
     refusal: Refusal,
     explain: bool,
 ) -> u8
-    ensures { result ≡ REFUSED }
+    ensures { result ≡ EXIT_REFUSED }
 {
     let mut why = String::new(alloc);
     if let Refusal::Machine(MachineError::RingLength) = refusal {

@@ -5,12 +5,12 @@ ghost use Rattle.ring_machine.specs.Queues.{AreQueues};
 ghost use Rattle.schedule_command.specs.Lists.{IsPrinted, IsShown, NotPrinted, list_text, queues_of};
 
 use commands::replay_text;
-use requests::{PAGE_DATA, QueuePlan, Refusal, ScheduleRequest, Shown};
+use requests::{PAGE_DATA, QueuePlan, Refusal, ReplayOutput, ScheduleRequest};
 use schedules::{Drawn, draw};
 use std::alloc::{AllocError, Global};
 
 // The queues on which the moves are replayed.
-fn queues_of(request: &ScheduleRequest, shown: Shown) -> QueuePlan
+fn queues_of(request: &ScheduleRequest, shown: ReplayOutput) -> QueuePlan
     ensures { result ≡ queues_of request.now shown }
 {
     QueuePlan {

@@ -29,14 +29,14 @@ use Rattle.schedules.specs.Drawing.{Draws, IsDrawn, Surely, allowed, happening, 
 -- what a step's answer says of it
 pub drawn-as : (old new : QueueParts) (d : Drawn) (result : Result Note MachineError) → d.happens ≡ is_ok result → QueuesFollow old d.action result new → Draws old d new
 unfolding QueuesFollow Draws
-drawn-as old new d (Ok t) told follows pairs n w reached agrees =
+drawn-as old new d (Ok t) outcome follows pairs n w reached agrees =
     let did = follows pairs n w reached agrees in
     let made = did-made w (queue_move d.action) t (next can_move after_move w (queue_move d.action)) old new did in
-    (told ∙ sym made.1, did.agrees)
-drawn-as old new d (Err e) told follows pairs n w reached agrees =
+    (outcome ∙ sym made.1, did.agrees)
+drawn-as old new d (Err e) outcome follows pairs n w reached agrees =
     let did = follows pairs n w reached agrees in
     let refused = did-refused w (queue_move d.action) e (next can_move after_move w (queue_move d.action)) old new did in
-    (told ∙ sym refused.1, did.agrees)
+    (outcome ∙ sym refused.1, did.agrees)
 
 -- ---- a move that always happens
 
@@ -177,5 +177,5 @@ next-drawn p l before later d refused count may queues draws sure owed counted s
 -- what was not refused was pushed
 pub pushed : {Given Refused : Type 0} (l after : List Drawn) (d : Drawn) (result : Result Given Refused) → after ≡ (if is_ok result then l ++ d ∷ [] else l) → false ≡ is_err result
     → after ≡ l ++ d ∷ []
-pushed l after d (Ok given) is told = is
-pushed l after d (Err refused) is told = let bad : ⊥ = cc told in absurd bad
+pushed l after d (Ok given) is outcome = is
+pushed l after d (Err refused) is outcome = let bad : ⊥ = cc outcome in absurd bad

@@ -10,11 +10,11 @@ use Rattle.schedules.specs.declared.covering.lists.CoverList.{CoverList}
 use Rattle.schedules.specs.declared.covering.tried.Scope.{Scope}
 use Rattle.schedules.specs.Lists.{Meets, beginning}
 use Rattle.schedules.specs.Tried.{InScope, completion_of}
-use Rattle.schedules.specs.Told.{told_by}
+use Rattle.schedules.specs.OutcomeKind.{outcome_of}
 
 pub meets : (s : Scope) (l : CoverList) (path : List Move) (old between new : QueueParts) (count : ℕ) (answer : Result Note MachineError)
     → QueuesAgree old (beginning s) → QueuesRun old path count between → count ≡ length path → QueuesFollow between l.pair.action answer new
-    → l.pair.told ≡ told_by answer → l.moves.items ≡ path ++ l.pair.action ∷ [] → InScope s l.moves.items → Meets s l
+    → l.pair.outcome ≡ outcome_of answer → l.moves.items ≡ path ++ l.pair.action ∷ [] → InScope s l.moves.items → Meets s l
 unfolding QueuesRun QueuesFollow
 meets s l path old between new count answer made run all follows tells ends scoped =
     let opening = reached-opening can_move after_move (opening_world 1 8) (record { enabled = s.device_only; completion = completion_of s.side }) in
@@ -24,6 +24,6 @@ meets s l path old between new count answer made run all follows tells ends scop
       before = path;
       ends = ends;
       happen = sym ran.1 ∙ all;
-      tells = tells ∙ ap told_by did.answer;
+      tells = tells ∙ ap outcome_of did.answer;
       in_scope = scoped;
     }

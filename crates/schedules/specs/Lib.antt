@@ -1,5 +1,5 @@
 pub mod Drawing
 pub mod Lists
 pub mod Pairs
-pub mod Told
+pub mod OutcomeKind
 pub mod Tried

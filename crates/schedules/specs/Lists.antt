@@ -7,7 +7,7 @@ use Rattle.refusals.specs.declared.errors.MachineError.TheVariants.{NotEnabled}
 use Rattle.ring_machine.specs.declared.moves.Move.{Move}
 use Rattle.schedules.specs.declared.covering.lists.CoverList.{CoverList}
 use Rattle.schedules.specs.declared.covering.tried.Scope.{Scope}
-use Rattle.schedules.specs.Told.{told_by}
+use Rattle.schedules.specs.OutcomeKind.{outcome_of}
 use Rattle.schedules.specs.Tried.{InScope, completion_of}
 
 -- a pair of queues of 8 as they are made, enabled where only data is moved
@@ -19,5 +19,5 @@ pub record Meets (s : Scope) (l : CoverList) : Type 0 where
   pub before : List Move
   pub ends : l.moves.items ≡ before ++ l.pair.action ∷ []
   pub happen : moves_happened (beginning s) (map queue_move before) ≡ length before
-  pub tells : l.pair.told ≡ told_by (ok_or (note_in (after_moves (beginning s) (map queue_move before)) (queue_move l.pair.action)) NotEnabled)
+  pub tells : l.pair.outcome ≡ outcome_of (ok_or (note_in (after_moves (beginning s) (map queue_move before)) (queue_move l.pair.action)) NotEnabled)
   pub in_scope : InScope s l.moves.items

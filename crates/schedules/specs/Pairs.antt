@@ -6,7 +6,7 @@ use Rattle.ring_model.specs.declared.states.ControllerState.{ControllerState}
 use Rattle.ring_model.specs.declared.states.ControllerState.TheVariants as controller
 use Rattle.ring_machine.specs.text.Moves.{name_of}
 use Rattle.schedules.specs.declared.covering.pairs.Pair.{Pair}
-use Rattle.schedules.specs.Told.{told_words}
+use Rattle.schedules.specs.OutcomeKind.{outcome_words}
 
 abbrev pub driver_number : DriverState → ℕ
 driver_number driver.New = 0
@@ -41,4 +41,4 @@ states_text d c = codes "driver " ++ driver_words d ++ codes " controller " ++ c
 
 -- "r0 A6 driver On controller serving: none"
 abbrev pub pair_text : Pair → List ℕ
-pair_text p = name_of p.action ++ codes " " ++ states_text p.driver p.controller ++ codes ": " ++ told_words p.told
+pair_text p = name_of p.action ++ codes " " ++ states_text p.driver p.controller ++ codes ": " ++ outcome_words p.outcome

@@ -11,10 +11,10 @@ use Rattle.ring_model.specs.transmit.Ring.{Posting, new_posting}
 use Rattle.ring_machine.specs.declared.moves.Move.{Move}
 use Rattle.ring_machine.specs.declared.moves.Move.TheVariants.{Receive, Transmit}
 use Rattle.schedules.specs.declared.covering.tried.Scope.{Scope}
-use Rattle.schedules.specs.declared.covering.tried.Side.{Side}
-use Rattle.schedules.specs.declared.covering.tried.Side.TheVariants as side
+use Rattle.schedules.specs.declared.covering.tried.SearchedQueue.{SearchedQueue}
+use Rattle.schedules.specs.declared.covering.tried.SearchedQueue.TheVariants as side
 
-abbrev pub completion_of : Side → Completion
+abbrev pub completion_of : SearchedQueue → Completion
 completion_of side.Receive = Status
 completion_of (side.Transmit by) = by
 
@@ -69,6 +69,6 @@ transmit_moves q inner last asking =
     ∷ Transmit q tx.ClearHead ∷ Transmit q tx.ClearTail ∷ Transmit q tx.ClearReport ∷ []
 
 -- of queue 0: postings are in the middle of a frame, at its end, and at its end with RS
-abbrev pub tried_on : Side → List Move
+abbrev pub tried_on : SearchedQueue → List Move
 tried_on side.Receive = receive_moves 0 60
 tried_on (side.Transmit by) = transmit_moves 0 (new_posting 0 60 false false 60) (new_posting 0 60 true false 60) (new_posting 0 60 true true 60)

@@ -56,7 +56,7 @@ impl Lane {
 
     /// The mood of the queue's next move: its own, which changes now and then, or with `any` the one that weighs all
     /// kinds alike.
-    pub fn turn(&mut self, chance: &mut Chance, any: bool) -> Mood {
+    pub fn next_mood(&mut self, chance: &mut Chance, any: bool) -> Mood {
         if chance.one_in(MOOD_MOVES) {
             self.mood = Mood::of(chance.below(4));
         }
@@ -71,7 +71,7 @@ impl Lane {
     }
 
     // Advances the frame by `len` bytes.
-    fn go_on(&mut self, chance: &mut Chance, len: u32, eop: bool) {
+    fn expand(&mut self, chance: &mut Chance, len: u32, eop: bool) {
         if eop {
             self.begin(chance);
         } else {
@@ -121,7 +121,7 @@ impl Lane {
 
     /// Records a stored segment.
     pub fn stored(&mut self, chance: &mut Chance, len: SegmentLength, eop: bool) {
-        self.go_on(chance, u32::from(len.bytes()), eop);
+        self.expand(chance, u32::from(len.bytes()), eop);
     }
 
     /// Records a move of the queue.
@@ -132,7 +132,7 @@ impl Lane {
                 if posting.eop() {
                     self.unreported = !posting.rs();
                 }
-                self.go_on(chance, u32::from(posting.len()), posting.eop());
+                self.expand(chance, u32::from(posting.len()), posting.eop());
             }
             Move::Receive(_, RxStep::ClearTail) | Move::Transmit(_, TxStep::ClearTail) => {
                 self.unreported = false;

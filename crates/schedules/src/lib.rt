@@ -1,9 +1,9 @@
-//! Lists of moves for queues, drawn from a seed or covering what a queue can do: cases for testing a driver or an emulator
-//! of the controller.
-//! Depends on `ring_machine`, `ring_model`, `ring_laws`, `limits`, `refusals`, `arrayvec`, `rand`,
-//! `rand_core`, `rand_pcg` and `settings`.
-//! Each list has the requested number of moves, states of each whether it happens, and keeps to the allowed
-//! percentage of moves that do not.
+//! Lists of moves for queues, drawn from a seed or covering what a queue can do: cases for testing a driver or an
+//! emulator of the controller.
+//! Depends on `ring_machine`, `ring_model`, `ring_laws`, `settings`, `limits`, `refusals`, `arrayvec`, `rand`,
+//! `rand_core` and `rand_pcg`.
+//! Guarantees that each list has the requested number of moves, states of each whether it happens, and keeps to the
+//! allowed percentage of moves that do not.
 //!
 //! [`draw`] draws a list for a [`SchedulePlan`]. The weights of the moves change along the list, so that rings fill,
 //! wrap, drain, and are disabled in the middle of frames and renewed. Each move is made at once on queues of the

@@ -147,7 +147,7 @@ impl Proposer {
     fn propose_receive(&mut self, queue: QueueNumber, any: bool) -> Option<Move> {
         let buffer = self.buffer();
         let lane = self.receive.get_mut(usize::from(queue.number()))?;
-        let weights = receive_weights(lane.turn(&mut self.chance, any));
+        let weights = receive_weights(lane.next_mood(&mut self.chance, any));
         let kind = self
             .chance
             .place(weights.as_slice().get(..receive_kinds(self.device_only))?);
@@ -158,7 +158,7 @@ impl Proposer {
     fn propose_transmit(&mut self, queue: QueueNumber, any: bool) -> Option<Move> {
         let buffer = self.buffer();
         let lane = self.transmit.get_mut(usize::from(queue.number()))?;
-        let weights = transmit_weights(lane.turn(&mut self.chance, any));
+        let weights = transmit_weights(lane.next_mood(&mut self.chance, any));
         let kind = self.chance.place(weights.as_slice().get(..transmit_kinds(self.device_only))?);
         let step = transmit_step(kind, buffer, lane, &mut self.chance)?;
         Some(Move::Transmit(queue, step))

@@ -1,6 +1,6 @@
 //! The settings of a forwarder and of drawn lists of moves, and which of them are lawful.
 //! Depends on `limits`, `refusals`, `ring_model`, `text_lines` and `wire_script`.
-//! [`Config::check`] accepts exactly the lawful configurations that have all queues of a script.
+//! Guarantees that [`Config::check`] accepts exactly the lawful configurations that have all queues of a script.
 //!
 //! A [`Config`] has the numbers of a forwarder's queues, buffers and threads, and says what it does on full rings. A
 //! [`SchedulePlan`] says which moves are drawn, and [`Thresholds`] are those of a poll-mode driver that makes them.

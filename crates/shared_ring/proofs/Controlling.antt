@@ -8,23 +8,23 @@ use Rattle.ring_model.specs.declared.states.DriverState.TheVariants.{Asked, Stop
 use Rattle.ring_model.specs.declared.states.ControllerState.TheVariants.{Serving, Ended}
 use Rattle.ring_model.specs.declared.handshake.Handshake.{Handshake}
 use Rattle.ring_model.specs.declared.steps.ControlStep.TheVariants.{AskEnable, LookAsked, LookAnswered, AskDisable}
-use Rattle.ring_model.specs.shared.Handshakes.{is_open, is_serving, is_ended, is_new, is_on, is_stopped, is_cleared, is_tailed, is_between, enable, disable, learned}
-use Rattle.ring_model.specs.shared.QueueSteps.{Post, Publish, Look, Fetch, Complete, Head, Reap, Shake, Reclaim, ClearHead, ClearTail, Renew}
+use Rattle.ring_model.specs.shared.Handshakes.{is_open, is_serving, is_ended, is_new, is_on, is_stopped, is_cleared, is_tailed, is_between_epochs, enable, disable, learned}
+use Rattle.ring_model.specs.shared.QueueSteps.{Post, Publish, Look, Fetch, Complete, Head, Reap, Controls, Reclaim, ClearHead, ClearTail, Renew}
 use Rattle.ring_model.specs.shared.Queue.{Queue, posted_count, completed_count, by}
 use Rattle.ring_laws.specs.Lists.{slice_get-front}
 use Rattle.ring_laws.specs.Places.{ahead}
 use Rattle.ring_model.specs.kept.Queues.{IsKept}
 use Rattle.ring_laws.specs.States.{new_open, on_serving, serving_unended, learned_open, stopped_answered, cleared_emptied, tailed_emptied, emptied_answered, answered_closed}
-use Rattle.ring_laws.specs.Queues.{shook, held_below, answered_idle, answered_unheld}
+use Rattle.ring_laws.specs.Queues.{control_fits_of, held_below, answered_idle, answered_unheld}
 use Rattle.shared_ring.specs.Records.{Controlled, count_at}
 use Rattle.shared_ring.specs.LaidOut.{IsControlled}
 use Rattle.shared_ring.proofs.Laying.{none-empty}
 
 -- a queue that is served does not stand between two epochs
-pub serving_settled : (h : Handshake) → is_serving h.controller ≡ true → is_between h ≡ false
+pub serving_settled : (h : Handshake) → is_serving h.controller ≡ true → is_between_epochs h ≡ false
 serving_settled h serving = and_left (is_ended h.controller) (is_open h.driver) (serving_unended h.controller serving)
 
-pub closed_settled : (h : Handshake) → is_open h.driver ≡ false → is_between h ≡ false
+pub closed_settled : (h : Handshake) → is_open h.driver ≡ false → is_between_epochs h ≡ false
 closed_settled h closed = and_right (is_ended h.controller) (is_open h.driver) closed
 
 module _ {Posted Completed Reaped : Type 0} (word_of_item : ℕ → Option Posted → Option Completed → ℕ) (buffer_of_item : Option Posted → Option Completed → Option Buffer) (ends : Completed → Bool) (n : ℕ)
@@ -71,8 +71,8 @@ module _ {Posted Completed Reaped : Type 0} (word_of_item : ℕ → Option Poste
   ctl-reclaim = record { completed = l.completed; known = l.known; held = l.held; head = l.head; state = l.state; seen = l.seen; barred = l.barred }
 
   -- a step of the driver's side of the handshake
-  ctl-shaken : (g : Handshake) → g.controller ≡ q.handshake.controller → g.seen ≡ q.handshake.seen → (is_between g ≡ false → is_between q.handshake ≡ false) → IsControlled {Reaped = Reaped} word_of_item buffer_of_item (record q { handshake = g }) bars c
-  ctl-shaken g a b f = record {
+  ctl-control_stepped : (g : Handshake) → g.controller ≡ q.handshake.controller → g.seen ≡ q.handshake.seen → (is_between_epochs g ≡ false → is_between_epochs q.handshake ≡ false) → IsControlled {Reaped = Reaped} word_of_item buffer_of_item (record q { handshake = g }) bars c
+  ctl-control_stepped g a b f = record {
     completed = λ e. l.completed (f e);
     known = λ e. l.known (f e);
     held = l.held;
@@ -83,17 +83,17 @@ module _ {Posted Completed Reaped : Type 0} (word_of_item : ℕ → Option Poste
   }
 
   -- the driver stays open, or stays closed
-  same_open : (g : Handshake) → g.controller ≡ q.handshake.controller → is_open g.driver ≡ is_open q.handshake.driver → is_between g ≡ false → is_between q.handshake ≡ false
+  same_open : (g : Handshake) → g.controller ≡ q.handshake.controller → is_open g.driver ≡ is_open q.handshake.driver → is_between_epochs g ≡ false → is_between_epochs q.handshake ≡ false
   same_open g a b e = sym (ap (λ (x : Bool). x && is_open q.handshake.driver) (ap is_ended a)) ∙ sym (ap (λ (x : Bool). is_ended g.controller && x) b) ∙ e
 
-  pub ctl-ask_enable : (settled : Bool) → is_new q.handshake.driver ≡ true → IsControlled {Reaped = Reaped} word_of_item buffer_of_item (by q (Shake AskEnable settled)) bars c
-  ctl-ask_enable settled e = let g : Handshake = record q.handshake { control = 1; driver = Asked } in ctl-shaken g refl refl (same_open g refl (sym (new_open q.handshake.driver e)))
+  pub ctl-ask_enable : (settled : Bool) → is_new q.handshake.driver ≡ true → IsControlled {Reaped = Reaped} word_of_item buffer_of_item (by q (Controls AskEnable settled)) bars c
+  ctl-ask_enable settled e = let g : Handshake = record q.handshake { control = 1; driver = Asked } in ctl-control_stepped g refl refl (same_open g refl (sym (new_open q.handshake.driver e)))
 
-  pub ctl-look_answered : (settled : Bool) → IsControlled {Reaped = Reaped} word_of_item buffer_of_item (by q (Shake LookAnswered settled)) bars c
-  ctl-look_answered settled = let g : Handshake = record q.handshake { driver = learned q.handshake.driver q.handshake.control } in ctl-shaken g refl refl (same_open g refl (learned_open q.handshake.driver q.handshake.control))
+  pub ctl-look_answered : (settled : Bool) → IsControlled {Reaped = Reaped} word_of_item buffer_of_item (by q (Controls LookAnswered settled)) bars c
+  ctl-look_answered settled = let g : Handshake = record q.handshake { driver = learned q.handshake.driver q.handshake.control } in ctl-control_stepped g refl refl (same_open g refl (learned_open q.handshake.driver q.handshake.control))
 
-  pub ctl-ask_disable : (settled : Bool) → is_on q.handshake.driver ≡ true → IsControlled {Reaped = Reaped} word_of_item buffer_of_item (by q (Shake AskDisable settled)) bars c
-  ctl-ask_disable settled e = let h = q.handshake in ctl-shaken (record h { control = 3; driver = Stopping }) refl refl (λ f. serving_settled h (on_serving h.driver h.controller h.control h.seen e (shook n ends q k)))
+  pub ctl-ask_disable : (settled : Bool) → is_on q.handshake.driver ≡ true → IsControlled {Reaped = Reaped} word_of_item buffer_of_item (by q (Controls AskDisable settled)) bars c
+  ctl-ask_disable settled e = let h = q.handshake in ctl-control_stepped (record h { control = 3; driver = Stopping }) refl refl (λ f. serving_settled h (on_serving h.driver h.controller h.control h.seen e (control_fits_of n ends q k)))
 
   pub ctl-clear_head : is_stopped q.handshake.driver ≡ true → IsControlled {Reaped = Reaped} word_of_item buffer_of_item (by q ClearHead) bars c
   ctl-clear_head e = let a = stopped_answered q.handshake.driver e in let closed = closed_settled q.handshake (answered_closed q.handshake.driver a) in record {
@@ -144,7 +144,7 @@ module _ {Posted Completed Reaped : Type 0} (word_of_item : ℕ → Option Poste
   pub ctl-head : (h : ℕ) → h ≡ completed_count q % n → IsControlled {Reaped = Reaped} word_of_item buffer_of_item (by q Head) bars (record c { head = h })
   ctl-head h at = record { completed = l.completed; known = l.known; held = l.held; head = λ e. at ∙ ap (λ (j : ℕ). completed_count q % j) (sym k.size_is); state = l.state; seen = l.seen; barred = l.barred }
 
-  pub ctl-look_asked : (settled : Bool) (v : ℕ) → v ≡ q.handshake.control → IsControlled {Reaped = Reaped} word_of_item buffer_of_item (by q (Shake LookAsked settled)) bars (record c { seen = v })
+  pub ctl-look_asked : (settled : Bool) (v : ℕ) → v ≡ q.handshake.control → IsControlled {Reaped = Reaped} word_of_item buffer_of_item (by q (Controls LookAsked settled)) bars (record c { seen = v })
   ctl-look_asked settled v e = record { completed = l.completed; known = l.known; held = l.held; head = l.head; state = l.state; seen = e; barred = l.barred }
 
   pub ctl-enable : is_serving q.handshake.controller ≡ false → is_open q.handshake.driver ≡ true → q.head ≡ 0

@@ -18,4 +18,4 @@ pub mod Closing
 pub mod Closed
 pub mod Serving
 pub mod Posting
-pub mod Shaking
+pub mod ControlStepping

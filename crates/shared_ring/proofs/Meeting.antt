@@ -9,7 +9,7 @@ use Rattle.buffer_pool.specs.Buffer.{Buffer}
 use Rattle.ring_model.specs.declared.states.Completion.{Completion}
 use Rattle.ring_model.specs.declared.states.ControllerState.{ControllerState}
 use Rattle.ring_model.specs.declared.states.ControllerState.TheVariants.{Ended}
-use Rattle.ring_model.specs.shared.Handshakes.{is_open, is_ended, is_serving, is_between}
+use Rattle.ring_model.specs.shared.Handshakes.{is_open, is_ended, is_serving, is_between_epochs}
 use Rattle.ring_model.specs.shared.Queue.{Queue}
 use Rattle.ring_model.specs.kept.Queues.{IsKept}
 use Rattle.shared_ring.specs.declared.events.DriverEvent.{DriverEvent}
@@ -118,12 +118,12 @@ module _ {Ring Posted Completed Reaped D C : Type 0} {form : Form Ring Posted Co
   its : {Y : Type 0} (f : Controlled Completed → Y) → f (controller_record c) ≡ f (controlling form (driver_size d) c.events)
   its f = ap (λ (z : TableId). f (controlling form z.slots c.events)) same
 
-  unanswered-is : is_unanswered d c ≡ is_between q.handshake
+  unanswered-is : is_unanswered d c ≡ is_between_epochs q.handshake
   unanswered-is = ap (λ (x : Bool). x && is_open (driver_state d)) (its (λ x. is_ended x.state) ∙ ap is_ended completed.state) ∙ ap (λ (x : Driven Posted Reaped). is_ended q.handshake.controller && is_open x.state) did
 
-  chosen : (b : Bool) → is_between q.handshake ≡ b → (if b then [] else completed_by c) ≡ q.ledger.completed
+  chosen : (b : Bool) → is_between_epochs q.handshake ≡ b → (if b then [] else completed_by c) ≡ q.ledger.completed
   chosen true e = let o = kept.order in let t = and_parts (is_ended q.handshake.controller) (is_open q.handshake.driver) e in sym (none-empty q.ledger.completed (o.none_completed (ended_idle q.handshake.controller t.0) t.1))
   chosen false e = its (λ x. x.completed) ∙ completed.completed e
 
   pub completed-is : completed_now d c ≡ q.ledger.completed
-  completed-is = ap (λ (b : Bool). if b then [] else completed_by c) unanswered-is ∙ chosen (is_between q.handshake) refl
+  completed-is = ap (λ (b : Bool). if b then [] else completed_by c) unanswered-is ∙ chosen (is_between_epochs q.handshake) refl

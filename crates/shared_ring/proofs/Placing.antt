@@ -11,15 +11,15 @@ use Rattle.ring_model.specs.declared.states.DriverState.TheVariants.{New, Asked,
 use Rattle.ring_model.specs.declared.handshake.Handshake.{Handshake}
 use Rattle.ring_model.specs.declared.steps.ControlStep.TheVariants.{AskEnable, LookAsked, LookAnswered, AskDisable}
 use Rattle.ring_model.specs.shared.Handshakes.{is_open, is_answered, is_serving, is_new, is_cleared, is_tailed, enable, disable, learned}
-use Rattle.ring_model.specs.shared.QueueSteps.{Post, Publish, Look, Fetch, Complete, Head, Reap, Shake, Reclaim, ClearHead, ClearTail, Renew}
+use Rattle.ring_model.specs.shared.QueueSteps.{Post, Publish, Look, Fetch, Complete, Head, Reap, Controls, Reclaim, ClearHead, ClearTail, Renew}
 use Rattle.ring_model.specs.shared.Queue.{Queue, posted_count, completed_count, returned_count, may, by}
 use Rattle.ring_model.specs.shared.Agreement.{HasItems}
 use Rattle.shared_ring.specs.Registers.{Registers, HasRegisters, registers_of}
 use Rattle.ring_model.specs.kept.Writes.{Writes}
 use Rattle.ring_laws.specs.Places.{slice_index-writes}
 use Rattle.ring_model.specs.kept.Queues.{IsKept}
-use Rattle.ring_laws.specs.States.{shakes-disable, serving_unanswered}
-use Rattle.ring_laws.specs.Queues.{shook}
+use Rattle.ring_laws.specs.States.{control_steps-disable, serving_unanswered}
+use Rattle.ring_laws.specs.Queues.{control_fits_of}
 use Rattle.shared_ring.specs.Slots.{home_at}
 use Rattle.shared_ring.specs.LaidOut.{is_early, IsLaidOutIn, AllLeft}
 use Rattle.shared_ring.proofs.Laying.{registers-stay, registers-head, registers-tail, registers-control, registers-quiet, descriptors-stay, home-reaped, home-taken, home-left, home-full, unheld_item}
@@ -162,8 +162,8 @@ module _ {Posted Completed Reaped : Type 0} (word_of_item : ℕ → Option Poste
       (items-reclaim word_of_item buffer_of_item n ends q k (slice_index words) (home_at homes) l.items (slice_index (slice_set words p w)) (home_at (set homes p none)) more (λ j b ne. out-rest p w j at b ne) (λ j b ne. home-left homes p j (λ e. ne (e ∙ at)))) l.cleared
 
   -- a step of the handshake that stores the control word
-  laid_out-shaken : (g : Handshake) (known v : ℕ) → g.control ≡ v → (is_early g.driver ≡ true → is_serving g.controller ≡ false → q.head ≡ 0) → IsLaidOutIn {Reaped = Reaped} word_of_item buffer_of_item n m (record q { known = known; handshake = g }) quiet (slice_set words (n + 2) v) homes
-  laid_out-shaken g known v e cleared = let i = items-past (n + 2) v (omega arith) in record {
+  laid_out-control_stepped : (g : Handshake) (known v : ℕ) → g.control ≡ v → (is_early g.driver ≡ true → is_serving g.controller ≡ false → q.head ≡ 0) → IsLaidOutIn {Reaped = Reaped} word_of_item buffer_of_item n m (record q { known = known; handshake = g }) quiet (slice_set words (n + 2) v) homes
+  laid_out-control_stepped g known v e cleared = let i = items-past (n + 2) v (omega arith) in record {
     word_count = count-words (n + 2) v;
     slot_count = l.slot_count;
     registers = subst (λ (x : ℕ). HasRegisters n (record (registers_of q quiet) { control = x }) (slice_set words (n + 2) v)) (sym e) (registers-control n (registers_of q quiet) words l.registers v room);
@@ -181,25 +181,25 @@ module _ {Posted Completed Reaped : Type 0} (word_of_item : ℕ → Option Poste
     cleared = cleared;
   }
 
-  pub laid_out-ask_enable : (settled : Bool) → is_new q.handshake.driver ≡ true → IsLaidOutIn {Reaped = Reaped} word_of_item buffer_of_item n m (by q (Shake AskEnable settled)) quiet (slice_set words (n + 2) 1) homes
-  laid_out-ask_enable settled e = laid_out-shaken (record q.handshake { control = 1; driver = Asked }) q.known 1 refl (λ a s. l.cleared (early_new q.handshake.driver e) s)
+  pub laid_out-ask_enable : (settled : Bool) → is_new q.handshake.driver ≡ true → IsLaidOutIn {Reaped = Reaped} word_of_item buffer_of_item n m (by q (Controls AskEnable settled)) quiet (slice_set words (n + 2) 1) homes
+  laid_out-ask_enable settled e = laid_out-control_stepped (record q.handshake { control = 1; driver = Asked }) q.known 1 refl (λ a s. l.cleared (early_new q.handshake.driver e) s)
 
-  pub laid_out-ask_disable : (settled : Bool) → IsLaidOutIn {Reaped = Reaped} word_of_item buffer_of_item n m (by q (Shake AskDisable settled)) quiet (slice_set words (n + 2) 3) homes
-  laid_out-ask_disable settled = laid_out-shaken (record q.handshake { control = 3; driver = Stopping }) q.known 3 refl (λ a s. absurd (false≢true a))
+  pub laid_out-ask_disable : (settled : Bool) → IsLaidOutIn {Reaped = Reaped} word_of_item buffer_of_item n m (by q (Controls AskDisable settled)) quiet (slice_set words (n + 2) 3) homes
+  laid_out-ask_disable settled = laid_out-control_stepped (record q.handshake { control = 3; driver = Stopping }) q.known 3 refl (λ a s. absurd (false≢true a))
 
-  pub laid_out-look_asked : (settled : Bool) → IsLaidOutIn {Reaped = Reaped} word_of_item buffer_of_item n m (by q (Shake LookAsked settled)) quiet words homes
+  pub laid_out-look_asked : (settled : Bool) → IsLaidOutIn {Reaped = Reaped} word_of_item buffer_of_item n m (by q (Controls LookAsked settled)) quiet words homes
   laid_out-look_asked settled = laid_out-loaded (record q.handshake { seen = q.handshake.control }) refl l.cleared
 
-  pub laid_out-look_answered : (settled : Bool) → IsLaidOutIn {Reaped = Reaped} word_of_item buffer_of_item n m (by q (Shake LookAnswered settled)) quiet words homes
+  pub laid_out-look_answered : (settled : Bool) → IsLaidOutIn {Reaped = Reaped} word_of_item buffer_of_item n m (by q (Controls LookAnswered settled)) quiet words homes
   laid_out-look_answered settled = laid_out-loaded (record q.handshake { driver = learned q.handshake.driver q.handshake.control }) refl (λ a s. l.cleared (early_learned q.handshake.driver q.handshake.control a) s)
 
   pub laid_out-enable : IsLaidOutIn {Reaped = Reaped} word_of_item buffer_of_item n m (record q { known = 0; handshake = enable q.handshake }) quiet (slice_set words (n + 2) 2) homes
-  laid_out-enable = laid_out-shaken (enable q.handshake) 0 2 refl (λ a s. absurd (true≢false s))
+  laid_out-enable = laid_out-control_stepped (enable q.handshake) 0 2 refl (λ a s. absurd (true≢false s))
 
   pub laid_out-disable : q.handshake.seen ≡ 3 → is_serving q.handshake.controller ≡ true → IsLaidOutIn {Reaped = Reaped} word_of_item buffer_of_item n m (record q { handshake = disable q.handshake }) quiet (slice_set words (n + 2) 0) homes
-  laid_out-disable seen serving = let h = q.handshake in let s = shook n ends q k in
-      laid_out-shaken (disable q.handshake) q.known 0 refl (λ a b. absurd (⊎_elim
-      (λ o. both_ways (is_open h.driver) (let t = shakes-disable h.driver h.controller h.control h.seen seen serving s in t.1) o)
+  laid_out-disable seen serving = let h = q.handshake in let s = control_fits_of n ends q k in
+      laid_out-control_stepped (disable q.handshake) q.known 0 refl (λ a b. absurd (⊎_elim
+      (λ o. both_ways (is_open h.driver) (let t = control_steps-disable h.driver h.controller h.control h.seen seen serving s in t.1) o)
       (λ f. both_ways (is_answered h.driver) (serving_unanswered h.driver h.controller h.control h.seen serving s) f)
       (early_either h.driver a)))
 

@@ -16,7 +16,7 @@ use Rattle.shared_ring.specs.declared.ends.HandshakeStep.{HandshakeStep}
 use Rattle.shared_ring.specs.declared.ends.HandshakeStep.TheVariants.{AskEnable, LoadControl, AskDisable}
 use Rattle.shared_ring.specs.declared.events.DriverEvent.{DriverEvent}
 use Rattle.shared_ring.specs.declared.events.DriverEvent.TheVariants as driver
-use Rattle.shared_ring.specs.Calls.{IsPoster, MayShake, shake_event, shaken}
+use Rattle.shared_ring.specs.Calls.{IsPoster, MayControlStep, control_event, after_control_step}
 use Rattle.shared_ring.specs.Ends.{DriverSide, driver_size, driver_record, known_of, driver_state, driver_grown}
 use Rattle.shared_ring.specs.Steps.{CameBack}
 use Rattle.shared_ring.specs.Forms.{Form, drive, know}
@@ -77,10 +77,10 @@ module _ {Posted Reaped : Type 0} (n : ℕ) (x : Driven Posted Reaped) (at : Dri
   }
 
   -- C1, C4, C5
-  pub poster-shaken : (step : HandshakeStep) (w : ℕ) → MayShake step x.state → IsPoster n (record x { state = shaken step x.state w }) (record at { state = shaken step at.state w })
-  poster-shaken AskEnable w may = poster-state (shaken AskEnable x.state w) x.published (λ a. open_unanswered x.state (new_open x.state may))
-  poster-shaken LoadControl w may = subst (λ (s : DriverState). IsPoster n (record x { state = learned x.state w }) (record at { state = learned s w })) (sym h.state_is) (poster-state (learned x.state w) x.published (learned_unanswered x.state w))
-  poster-shaken AskDisable w may = poster-state (shaken AskDisable x.state w) x.published (λ a. open_unanswered x.state (on_open x.state may))
+  pub poster-control_stepped : (step : HandshakeStep) (w : ℕ) → MayControlStep step x.state → IsPoster n (record x { state = after_control_step step x.state w }) (record at { state = after_control_step step at.state w })
+  poster-control_stepped AskEnable w may = poster-state (after_control_step AskEnable x.state w) x.published (λ a. open_unanswered x.state (new_open x.state may))
+  poster-control_stepped LoadControl w may = subst (λ (s : DriverState). IsPoster n (record x { state = learned x.state w }) (record at { state = learned s w })) (sym h.state_is) (poster-state (learned x.state w) x.published (learned_unanswered x.state w))
+  poster-control_stepped AskDisable w may = poster-state (after_control_step AskDisable x.state w) x.published (λ a. open_unanswered x.state (on_open x.state may))
 
 -- How the record of an end, and what it has learnt, are read after a step
 module _ {Ring Posted Completed Reaped D C : Type 0} {form : Form Ring Posted Completed Reaped D C} where
@@ -91,15 +91,15 @@ module _ {Ring Posted Completed Reaped D C : Type 0} {form : Form Ring Posted Co
   known-after d new e step = ap known_of step ∙ knowing-snoc form.posting form.drive_own form.saw_head form.know_own undriven form.unknown d.events e
 
   -- a step of the handshake changes the state alone, and teaches nothing else
-  pub shaken-record : (d : DriverSide form) (step : HandshakeStep) (w : ℕ) → drive form (driver_record d) (shake_event step w) ≡ record (driver_record d) { state = shaken step (driver_state d) w }
-  shaken-record d AskEnable w = refl
-  shaken-record d LoadControl w = refl
-  shaken-record d AskDisable w = refl
+  pub control_stepped-record : (d : DriverSide form) (step : HandshakeStep) (w : ℕ) → drive form (driver_record d) (control_event step w) ≡ record (driver_record d) { state = after_control_step step (driver_state d) w }
+  control_stepped-record d AskEnable w = refl
+  control_stepped-record d LoadControl w = refl
+  control_stepped-record d AskDisable w = refl
 
-  pub shaken-known : (d : DriverSide form) (step : HandshakeStep) (w : ℕ) → know form (driver_record d) (known_of d) (shake_event step w) ≡ known_of d
-  shaken-known d AskEnable w = refl
-  shaken-known d LoadControl w = refl
-  shaken-known d AskDisable w = refl
+  pub control_stepped-known : (d : DriverSide form) (step : HandshakeStep) (w : ℕ) → know form (driver_record d) (known_of d) (control_event step w) ≡ known_of d
+  control_stepped-known d AskEnable w = refl
+  control_stepped-known d LoadControl w = refl
+  control_stepped-known d AskDisable w = refl
 
   -- C6
   module _ (d : DriverSide form) (at : DriverPlaces) (h : IsPoster (driver_size d) (driver_record d) at) where

@@ -28,19 +28,19 @@ use Rattle.shared_ring.proofs.Folds.{controlling-snoc}
 
 -- in a ring that was never enabled
 abbrev pub unplaced : ℕ → ControllerPlaces
-unplaced n = record { size = n; serve = 0; ahead = 0; holding = false; between = true; state = Off; seen = Disabled }
+unplaced n = record { size = n; serve = 0; available = 0; holding = false; at_frame_end = true; state = Off; seen = Disabled }
 
 pub server-fresh : {Completed : Type 0} (carries : Completed → Piece) (n : ℕ) → IsRingLength n → IsServer carries n uncontrolled (unplaced n)
 server-fresh carries n lawful = let g : 8 ≤ n = lawful.0 in record {
   lawful = lawful;
   size_is = refl;
   serve_is = sym (zero-mod n);
-  ahead_is = refl;
-  ahead_below = omega arith;
+  available_is = refl;
+  available_below = omega arith;
   held_is = refl;
-  held_ahead = λ e. absurd (false≢true e);
+  held_available = λ e. absurd (false≢true e);
   held_serving = λ e. absurd (false≢true e);
-  between_is = refl;
+  at_frame_end_is = refl;
   state_is = refl;
   seen_is = refl;
 }
@@ -59,8 +59,8 @@ module _ {Completed : Type 0} (carries : Completed → Piece) where
   rest-none whole rest (x ∷ xs) h e = rest-none (carries x).eop (if (carries x).eop then [] else rest ++ x ∷ []) xs (λ f. ap (λ (b : Bool). if b then [] else rest ++ x ∷ []) f) e
 
   -- between two frames nothing is unfinished
-  pub between-rest : (xs : List Completed) → ends_whole carries xs ≡ true → unfinished carries xs ≡ []
-  between-rest xs e = rest-none true [] xs (λ f. refl) e
+  pub at_frame_end-rest : (xs : List Completed) → ends_whole carries xs ≡ true → unfinished carries xs ≡ []
+  at_frame_end-rest xs e = rest-none true [] xs (λ f. refl) e
 
 pub there-none : (o : Option Buffer) → o ≡ None → is_there o ≡ false
 there-none o e = ap is_there e
@@ -85,85 +85,85 @@ module _ {Completed : Type 0} (carries : Completed → Piece) (n : ℕ) (x : Con
     lawful = h.lawful;
     size_is = h.size_is;
     serve_is = rw (a) h.serve_is;
-    ahead_is = rw (a, b) h.ahead_is;
-    ahead_below = h.ahead_below;
+    available_is = rw (a, b) h.available_is;
+    available_below = h.available_below;
     held_is = rw (c) h.held_is;
-    held_ahead = h.held_ahead;
+    held_available = h.held_available;
     held_serving = rw (d) h.held_serving;
-    between_is = rw (a) h.between_is;
+    at_frame_end_is = rw (a) h.at_frame_end_is;
     state_is = rw (d) h.state_is;
     seen_is = rw (e) h.seen_is;
   }
 
   -- A3, B3: how far a loaded tail is ahead
-  module _ (tail ahead : ℕ) (is : ahead ≡ between_places at.size at.serve tail) (grows : x.known ≤ count_at n (length x.completed) tail) where
-    pub counted : ahead ≡ (tail + n - length x.completed % n) % n
+  module _ (tail available : ℕ) (is : available ≡ between_places at.size at.serve tail) (grows : x.known ≤ count_at n (length x.completed) tail) where
+    pub counted : available ≡ (tail + n - length x.completed % n) % n
     counted = is ∙ ap (λ (m : ℕ). (tail + m - at.serve) % m) h.size_is ∙ ap (λ (j : ℕ). (tail + n - j) % n) h.serve_is
 
-    pub server-look : IsServer carries n (record x { known = count_at n (length x.completed) tail }) (record at { ahead = ahead })
-    server-look = let b = big in let i = counted in let g = grows in let j = h.ahead_is in let k : length x.completed + ahead ≡ count_at n (length x.completed) tail = ap (λ (j : ℕ). length x.completed + j) counted in let m : (tail + n - length x.completed % n) % n < n = mod-lt (tail + n - length x.completed % n) (omega arith) in record {
+    pub server-look : IsServer carries n (record x { known = count_at n (length x.completed) tail }) (record at { available = available })
+    server-look = let b = big in let i = counted in let g = grows in let j = h.available_is in let k : length x.completed + available ≡ count_at n (length x.completed) tail = ap (λ (j : ℕ). length x.completed + j) counted in let m : (tail + n - length x.completed % n) % n < n = mod-lt (tail + n - length x.completed % n) (omega arith) in record {
       lawful = h.lawful;
       size_is = h.size_is;
       serve_is = h.serve_is;
-      ahead_is = omega arith;
-      ahead_below = omega arith;
+      available_is = omega arith;
+      available_below = omega arith;
       held_is = h.held_is;
-      held_ahead = λ e. let a = h.held_ahead e in omega arith;
+      held_available = λ e. let a = h.held_available e in omega arith;
       held_serving = h.held_serving;
-      between_is = h.between_is;
+      at_frame_end_is = h.at_frame_end_is;
       state_is = h.state_is;
       seen_is = h.seen_is;
     }
 
   -- A4, B4
   pub server-fetch : (b : Buffer) → is_serving x.state ≡ true → 0 < x.known - length x.completed → IsServer carries n (record x { held = Some b }) (record at { holding = true })
-  server-fetch b serving some = let i = h.ahead_is in record {
+  server-fetch b serving some = let i = h.available_is in record {
     lawful = h.lawful;
     size_is = h.size_is;
     serve_is = h.serve_is;
-    ahead_is = h.ahead_is;
-    ahead_below = h.ahead_below;
+    available_is = h.available_is;
+    available_below = h.available_below;
     held_is = refl;
-    held_ahead = λ e. omega arith;
+    held_available = λ e. omega arith;
     held_serving = λ e. serving;
-    between_is = h.between_is;
+    at_frame_end_is = h.at_frame_end_is;
     state_is = h.state_is;
     seen_is = h.seen_is;
   }
 
   -- A5, B5: what was held is served
-  pub server-completed : (s : Completed) (serve : ℕ) (between : Bool) → at.holding ≡ true → serve ≡ (if (at.serve + 1) == n then 0 else (at.serve + 1)) → between ≡ (carries s).eop → (place : ℕ) (bars : Bool)
-      → IsServer carries n (record x { completed = x.completed ++ s ∷ []; held = None; head = place; barred = bars }) (record at { serve = serve; ahead = at.ahead - 1; holding = false; between = between })
-  server-completed s serve between holds e ends place bars = let len = length-append x.completed (s ∷ []) in let sf = h.held_ahead holds in let i = h.ahead_is in let fb = h.ahead_below in record {
+  pub server-completed : (s : Completed) (serve : ℕ) (at_frame_end : Bool) → at.holding ≡ true → serve ≡ (if (at.serve + 1) == n then 0 else (at.serve + 1)) → at_frame_end ≡ (carries s).eop → (place : ℕ) (bars : Bool)
+      → IsServer carries n (record x { completed = x.completed ++ s ∷ []; held = None; head = place; barred = bars }) (record at { serve = serve; available = at.available - 1; holding = false; at_frame_end = at_frame_end })
+  server-completed s serve at_frame_end holds e ends place bars = let len = length-append x.completed (s ∷ []) in let sf = h.held_available holds in let i = h.available_is in let fb = h.available_below in record {
     lawful = h.lawful;
     size_is = h.size_is;
     serve_is = next-is serve e ∙ ap (λ (j : ℕ). j % n) (sym len);
-    ahead_is = omega arith;
-    ahead_below = omega arith;
+    available_is = omega arith;
+    available_below = omega arith;
     held_is = refl;
-    held_ahead = λ f. absurd (false≢true f);
+    held_available = λ f. absurd (false≢true f);
     held_serving = λ f. absurd (false≢true f);
-    between_is = ends ∙ sym (whole-snoc carries x.completed s);
+    at_frame_end_is = ends ∙ sym (whole-snoc carries x.completed s);
     state_is = h.state_is;
     seen_is = h.seen_is;
   }
 
   -- C2
   pub server-request : (v : Control) → IsServer carries n (record x { seen = control_word v }) (record at { seen = v })
-  server-request v = record { lawful = h.lawful; size_is = h.size_is; serve_is = h.serve_is; ahead_is = h.ahead_is; ahead_below = h.ahead_below; held_is = h.held_is; held_ahead = h.held_ahead; held_serving = h.held_serving; between_is = h.between_is; state_is = h.state_is; seen_is = refl }
+  server-request v = record { lawful = h.lawful; size_is = h.size_is; serve_is = h.serve_is; available_is = h.available_is; available_below = h.available_below; held_is = h.held_is; held_available = h.held_available; held_serving = h.held_serving; at_frame_end_is = h.at_frame_end_is; state_is = h.state_is; seen_is = refl }
 
   -- C3
-  pub server-enable : is_serving at.state ≡ false → IsServer carries n (record x { completed = []; known = 0; head = 0; state = Serving; seen = 2; barred = false }) (record at { serve = 0; ahead = 0; between = true; state = Serving; seen = Enabled })
+  pub server-enable : is_serving at.state ≡ false → IsServer carries n (record x { completed = []; known = 0; head = 0; state = Serving; seen = 2; barred = false }) (record at { serve = 0; available = 0; at_frame_end = true; state = Serving; seen = Enabled })
   server-enable idle = let b = big in record {
     lawful = h.lawful;
     size_is = h.size_is;
     serve_is = sym (zero-mod n);
-    ahead_is = refl;
-    ahead_below = omega arith;
+    available_is = refl;
+    available_below = omega arith;
     held_is = h.held_is;
-    held_ahead = λ e. absurd (both_ways (is_serving x.state) (sym (ap is_serving h.state_is) ∙ idle) (h.held_serving e));
+    held_available = λ e. absurd (both_ways (is_serving x.state) (sym (ap is_serving h.state_is) ∙ idle) (h.held_serving e));
     held_serving = λ e. refl;
-    between_is = refl;
+    at_frame_end_is = refl;
     state_is = refl;
     seen_is = refl;
   }
@@ -173,12 +173,12 @@ module _ {Completed : Type 0} (carries : Completed → Piece) (n : ℕ) (x : Con
     lawful = h.lawful;
     size_is = h.size_is;
     serve_is = h.serve_is;
-    ahead_is = h.ahead_is;
-    ahead_below = h.ahead_below;
+    available_is = h.available_is;
+    available_below = h.available_below;
     held_is = h.held_is;
-    held_ahead = h.held_ahead;
+    held_available = h.held_available;
     held_serving = λ e. absurd (both_ways at.holding (h.held_is ∙ there-none x.held unheld) e);
-    between_is = h.between_is;
+    at_frame_end_is = h.at_frame_end_is;
     state_is = refl;
     seen_is = refl;
   }
@@ -205,19 +205,19 @@ module _ {Ring Posted Completed Reaped D C : Type 0} {form : Form Ring Posted Co
     record-is : controller_record new ≡ record (controller_record c) { known = count_at (controller_size c) (length (completed c)) tail }
     record-is = record-after c new (controller.Looked tail) f.step
 
-    pub look-keeps : (at : ControllerPlaces) (ahead : ℕ) → IsServer form.carries (controller_size c) (controller_record c) at → ahead ≡ between_places at.size at.serve tail → IsServer form.carries (controller_size new) (controller_record new) (record at { ahead = ahead })
-    look-keeps at ahead h is = completed-as c new (controller.Looked tail) (record (controller_record c) { known = count_at (controller_size c) (length (completed c)) tail }) (record at { ahead = ahead }) f.step record-is
-        (server-look form.carries (controller_size c) (controller_record c) at h tail ahead is f.grows)
+    pub look-keeps : (at : ControllerPlaces) (available : ℕ) → IsServer form.carries (controller_size c) (controller_record c) at → available ≡ between_places at.size at.serve tail → IsServer form.carries (controller_size new) (controller_record new) (record at { available = available })
+    look-keeps at available h is = completed-as c new (controller.Looked tail) (record (controller_record c) { known = count_at (controller_size c) (length (completed c)) tail }) (record at { available = available }) f.step record-is
+        (server-look form.carries (controller_size c) (controller_record c) at h tail available is f.grows)
 
-    ahead-there : (found : ControllerPlaces) → IsServer form.carries (controller_size new) (controller_record new) found → found.ahead ≡ (tail + controller_size c - serve_place c) % controller_size c
-    ahead-there found k = let i = k.ahead_is in let r : (controller_record new).known ≡ count_at (controller_size c) (length (completed c)) tail = ap (λ (y : Controlled Completed). y.known) record-is in let s : length (completed new) ≡ length (completed c) = ap (λ (y : Controlled Completed). length y.completed) record-is in omega arith
+    available-there : (found : ControllerPlaces) → IsServer form.carries (controller_size new) (controller_record new) found → found.available ≡ (tail + controller_size c - serve_place c) % controller_size c
+    available-there found k = let i = k.available_is in let r : (controller_record new).known ≡ count_at (controller_size c) (length (completed c)) tail = ap (λ (y : Controlled Completed). y.known) record-is in let s : length (completed new) ≡ length (completed c) = ap (λ (y : Controlled Completed). length y.completed) record-is in omega arith
 
-    pub look-found : (found : ControllerPlaces) → IsServer form.carries (controller_size new) (controller_record new) found → FoundAhead c found.ahead new
-    look-found found k = let a = ahead-there found k in let g = f.grows in record {
+    pub look-found : (found : ControllerPlaces) → IsServer form.carries (controller_size new) (controller_record new) found → FoundAhead c found.available new
+    look-found found k = let a = available-there found k in let g = f.grows in record {
       tail = tail;
       step = f.step;
-      ahead = ahead-there found k;
-      same = record-is ∙ ap (λ (j : ℕ). let y : Controlled Completed = record (controller_record c) { known = length (completed c) + j } in y) (sym (ahead-there found k));
+      available = available-there found k;
+      same = record-is ∙ ap (λ (j : ℕ). let y : Controlled Completed = record (controller_record c) { known = length (completed c) + j } in y) (sym (available-there found k));
       grows = omega arith;
     }
 
@@ -250,8 +250,8 @@ module _ {Ring Posted Completed Reaped D C : Type 0} {form : Form Ring Posted Co
     pub idle-unheld : is_serving at.state ≡ false → held c ≡ None
     idle-unheld idle = none-there (held c) (sym h.held_is ∙ ⊎_elim (λ t. absurd (both_ways (is_serving (controller_state c)) (sym (ap is_serving h.state_is) ∙ idle) (h.held_serving t))) (λ f. f) (cases_Bool at.holding))
 
-    pub enable-keeps : (new : ControllerSide form) → is_serving at.state ≡ false → new ≡ controller_grown c controller.Enabled → IsServer form.carries (controller_size new) (controller_record new) (record at { serve = 0; ahead = 0; between = true; state = Serving; seen = Enabled })
-    enable-keeps new idle step = completed-as c new controller.Enabled (record (controller_record c) { completed = []; known = 0; head = 0; state = Serving; seen = 2; barred = false }) (record at { serve = 0; ahead = 0; between = true; state = Serving; seen = Enabled }) step (record-after c new controller.Enabled step)
+    pub enable-keeps : (new : ControllerSide form) → is_serving at.state ≡ false → new ≡ controller_grown c controller.Enabled → IsServer form.carries (controller_size new) (controller_record new) (record at { serve = 0; available = 0; at_frame_end = true; state = Serving; seen = Enabled })
+    enable-keeps new idle step = completed-as c new controller.Enabled (record (controller_record c) { completed = []; known = 0; head = 0; state = Serving; seen = 2; barred = false }) (record at { serve = 0; available = 0; at_frame_end = true; state = Serving; seen = Enabled }) step (record-after c new controller.Enabled step)
         (server-enable form.carries (controller_size c) (controller_record c) at h idle)
 
     pub enabled-is : (new : ControllerSide form) → is_serving at.state ≡ false → new ≡ controller_grown c controller.Enabled → Answered c new

@@ -18,7 +18,7 @@ use Rattle.shared_ring.specs.declared.ends.HandshakeStep.TheVariants.{AskEnable,
 use Rattle.shared_ring.specs.declared.events.DriverEvent.{DriverEvent}
 use Rattle.shared_ring.specs.declared.events.DriverEvent.TheVariants as driver
 use Rattle.shared_ring.specs.declared.events.ControllerEvent.TheVariants as controller
-use Rattle.shared_ring.specs.Ends.{DriverSide, posted, returned, next_place, ControllerSide, controller_size, controller_record, controller_state, completed, known_ahead, held, is_between, head_stored, serve_place, seen, controller_grown}
+use Rattle.shared_ring.specs.Ends.{DriverSide, posted, returned, next_place, ControllerSide, controller_size, controller_record, controller_state, completed, known_ahead, held, is_at_frame_end, head_stored, serve_place, seen, controller_grown}
 use Rattle.shared_ring.specs.Forms.{Form}
 use Rattle.shared_ring.specs.Records.{Driven, Controlled, ends_whole}
 use Rattle.shared_ring.specs.Slots.{is_there}
@@ -46,7 +46,7 @@ module _ {Ring Posted Completed Reaped D C : Type 0} {form : Form Ring Posted Co
   pub record FoundAhead (old : ControllerSide form) (count : ℕ) (new : ControllerSide form) : Type 0 where
     pub tail : ℕ
     pub step : new ≡ controller_grown old (controller.Looked tail)
-    pub ahead : count ≡ (tail + controller_size old - serve_place old) % controller_size old
+    pub available : count ≡ (tail + controller_size old - serve_place old) % controller_size old
     pub same : controller_record new ≡ record (controller_record old) { known = length (completed old) + count }
     pub grows : known_ahead old ≤ count
 
@@ -66,7 +66,7 @@ module _ {Ring Posted Completed Reaped D C : Type 0} {form : Form Ring Posted Co
   pub record IsSettled (c : ControllerSide form) : Type 0 where
     pub serving : is_serving (controller_state c) ≡ true
     pub held : held c ≡ None
-    pub between : is_between c ≡ true
+    pub at_frame_end : is_at_frame_end c ≡ true
     pub head : head_stored c ≡ serve_place c
     pub may : form.MayDisable (controller_record c)
 
@@ -108,15 +108,15 @@ module _ {Ring Posted Completed Reaped D C : Type 0} {form : Form Ring Posted Co
 
 -- A step of the driver's half of the handshake, with the control value that it stored or loaded: its event, the
 -- driver's state after it, and when it may happen.
-abbrev pub shake_event : {D : Type 0} → HandshakeStep → ℕ → DriverEvent D
-shake_event AskEnable w = driver.AskedEnable
-shake_event LoadControl w = driver.LoadedControl w
-shake_event AskDisable w = driver.AskedDisable
+abbrev pub control_event : {D : Type 0} → HandshakeStep → ℕ → DriverEvent D
+control_event AskEnable w = driver.AskedEnable
+control_event LoadControl w = driver.LoadedControl w
+control_event AskDisable w = driver.AskedDisable
 
-abbrev pub shaken : HandshakeStep → DriverState → ℕ → DriverState
-shaken AskEnable s w = Asked
-shaken LoadControl s w = learned s w
-shaken AskDisable s w = Stopping
+abbrev pub after_control_step : HandshakeStep → DriverState → ℕ → DriverState
+after_control_step AskEnable s w = Asked
+after_control_step LoadControl s w = learned s w
+after_control_step AskDisable s w = Stopping
 
 -- A request stores this value.
 abbrev pub StoredBy : HandshakeStep → Control → Type 0
@@ -129,10 +129,10 @@ MayAsk EnableAsked s = is_new s ≡ true
 MayAsk DisableAsked s = is_on s ≡ true
 MayAsk _ s = ⊥
 
-abbrev pub MayShake : HandshakeStep → DriverState → Type 0
-MayShake AskEnable s = is_new s ≡ true
-MayShake LoadControl s = Unit {0}
-MayShake AskDisable s = is_on s ≡ true
+abbrev pub MayControlStep : HandshakeStep → DriverState → Type 0
+MayControlStep AskEnable s = is_new s ≡ true
+MayControlStep LoadControl s = Unit {0}
+MayControlStep AskDisable s = is_on s ≡ true
 
 -- The fields of a driver's end agree with its record.
 pub record IsPoster {Posted Reaped : Type 0} (n : ℕ) (x : Driven Posted Reaped) (at : DriverPlaces) : Type 0 where
@@ -150,11 +150,11 @@ pub record IsServer {Completed : Type 0} (carries : Completed → Piece) (n : �
   pub lawful : IsRingLength n
   pub size_is : at.size ≡ n
   pub serve_is : at.serve ≡ length x.completed % n
-  pub ahead_is : at.ahead + length x.completed ≡ x.known
-  pub ahead_below : at.ahead < n
+  pub available_is : at.available + length x.completed ≡ x.known
+  pub available_below : at.available < n
   pub held_is : at.holding ≡ is_there x.held
-  pub held_ahead : at.holding ≡ true → 0 < at.ahead
+  pub held_available : at.holding ≡ true → 0 < at.available
   pub held_serving : at.holding ≡ true → is_serving x.state ≡ true
-  pub between_is : at.between ≡ ends_whole carries x.completed
+  pub at_frame_end_is : at.at_frame_end ≡ ends_whole carries x.completed
   pub state_is : at.state ≡ x.state
   pub seen_is : control_word at.seen ≡ x.seen

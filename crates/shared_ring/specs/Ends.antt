@@ -122,8 +122,8 @@ module _ {Ring Posted Completed Reaped D C : Type 0} {form : Form Ring Posted Co
   is_barred c = (controller_record c).barred
 
   -- Whether the last completed item ends a frame; true if there is none.
-  abbrev pub is_between : ControllerSide form → Bool
-  is_between c = ends_whole form.carries (completed c)
+  abbrev pub is_at_frame_end : ControllerSide form → Bool
+  is_at_frame_end c = ends_whole form.carries (completed c)
 
   abbrev pub serve_place : ControllerSide form → ℕ
   serve_place c = length (completed c) % controller_size c

@@ -6,7 +6,7 @@ use lib.ListN.{get_elem?}
 use Rattle.buffer_pool.specs.Buffer.{Buffer}
 use Rattle.ring_model.specs.declared.states.DriverState.{DriverState}
 use Rattle.ring_model.specs.declared.states.DriverState.TheVariants.{New, Asked, Cleared, Tailed}
-use Rattle.ring_model.specs.shared.Handshakes.{is_serving, is_between}
+use Rattle.ring_model.specs.shared.Handshakes.{is_serving, is_between_epochs}
 use Rattle.ring_model.specs.shared.Queue.{Queue, posted_count, completed_count, returned_count}
 use Rattle.ring_model.specs.shared.Agreement.{HasItems, held_buffer}
 use Rattle.shared_ring.specs.Registers.{HasRegisters, registers_of}
@@ -28,8 +28,8 @@ is_early _ = false
 module _ {Posted Completed Reaped : Type 0} (word_of_item : ℕ → Option Posted → Option Completed → ℕ) (buffer_of_item : Option Posted → Option Completed → Option Buffer) where
   -- The controller's record of a queue. Between a renewal and the answered enabling, it is that of the previous epoch.
   pub record IsControlled (q : Queue Posted Completed Reaped) (bars : Bool) (c : Controlled Completed) : Type 0 where
-    pub completed : is_between q.handshake ≡ false → c.completed ≡ q.ledger.completed
-    pub known : is_between q.handshake ≡ false → c.known ≡ q.known
+    pub completed : is_between_epochs q.handshake ≡ false → c.completed ≡ q.ledger.completed
+    pub known : is_between_epochs q.handshake ≡ false → c.known ≡ q.known
     pub held : c.held ≡ held_buffer {Reaped = Reaped} word_of_item buffer_of_item q
     pub head : is_serving q.handshake.controller ≡ true → c.head ≡ q.head
     pub state : c.state ≡ q.handshake.controller

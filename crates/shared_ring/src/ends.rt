@@ -6,8 +6,8 @@ ghost use Rattle.ring_model.specs.declared.states.DriverState.TheVariants as sta
 ghost use Rattle.ring_model.specs.shared.Handshakes.{is_open, is_live, is_new, is_on, is_stopped, is_serving, learned};
 ghost use Rattle.ring_model.specs.shared.Frames.{unfinished};
 ghost use Rattle.ring_model.specs.declared.states.ControllerState.TheVariants as controller_state_is;
-ghost use Rattle.shared_ring.specs.Calls.{IsPoster, MayShake, StoredBy, shake_event, shaken, IsServer, IsSettled, MayAnswer, Answered, MayLoadWord, LoadedWord, FoundAhead};
-ghost use Rattle.shared_ring.specs.Ends.{Side, driver_of, driver_size, driver_record, posted, returned, driver_state, known_of, driver_grown, controller_of, controller_size, controller_record, completed, known_ahead, held, controller_state, is_between, controller_grown};
+ghost use Rattle.shared_ring.specs.Calls.{IsPoster, MayControlStep, StoredBy, control_event, after_control_step, IsServer, IsSettled, MayAnswer, Answered, MayLoadWord, LoadedWord, FoundAhead};
+ghost use Rattle.shared_ring.specs.Ends.{Side, driver_of, driver_size, driver_record, posted, returned, driver_state, known_of, driver_grown, controller_of, controller_size, controller_record, completed, known_ahead, held, controller_state, is_at_frame_end, controller_grown};
 ghost use Rattle.shared_ring.specs.Words.{control_word};
 ghost use Rattle.shared_ring.specs.declared.events.DriverEvent.{DriverEvent};
 ghost use Rattle.shared_ring.specs.declared.events.DriverEvent.TheVariants.{AskedEnable, LoadedControl, AskedDisable};
@@ -82,12 +82,12 @@ pub trait DriverEnd<D, C, R: Direction<D, C>>: Sized {
         ensures { IsPoster (driver_size (driver_of R.form (side self.now))) (driver_record (driver_of R.form (side self.now))) result };
 
     /// Makes a step of the handshake. Returns the control value that it stored or loaded.
-    fn shake(&mut self, ring: &Self::Ring, step: HandshakeStep) -> Control
+    fn control_step(&mut self, ring: &Self::Ring, step: HandshakeStep) -> Control
         requires own { (side self.old).table ≡ Self.Ring.table ring.now }
-        requires may { MayShake step (driver_state (driver_of R.form (side self.old))) }
+        requires may { MayControlStep step (driver_state (driver_of R.form (side self.old))) }
         ensures stored { StoredBy step result }
-        ensures step { driver_of R.form (side self.new) ≡ driver_grown (driver_of R.form (side self.old)) (shake_event step (control_word result)) }
-        ensures record { driver_record (driver_of R.form (side self.new)) ≡ record (driver_record (driver_of R.form (side self.old))) { state = shaken step (driver_state (driver_of R.form (side self.old))) (control_word result) } }
+        ensures step { driver_of R.form (side self.new) ≡ driver_grown (driver_of R.form (side self.old)) (control_event step (control_word result)) }
+        ensures record { driver_record (driver_of R.form (side self.new)) ≡ record (driver_record (driver_of R.form (side self.old))) { state = after_control_step step (driver_state (driver_of R.form (side self.old))) (control_word result) } }
         ensures known { known_of (driver_of R.form (side self.new)) ≡ known_of (driver_of R.form (side self.old)) };
 
     /// Returns the ring's length. A function that uses no field of an end or a seat learns none of their invariants; to
@@ -160,7 +160,7 @@ pub trait DriverEnd<D, C, R: Direction<D, C>>: Sized {
         ensures record { driver_record (driver_of R.form (side self.new)) ≡ record (driver_record (driver_of R.form (side self.old))) { state = state.Asked } }
         ensures known { known_of (driver_of R.form (side self.new)) ≡ known_of (driver_of R.form (side self.old)) }
     {
-        self.shake(ring, HandshakeStep::AskEnable);
+        self.control_step(ring, HandshakeStep::AskEnable);
     }
 
     /// Loads the control word. It shows the end whether the controller answered its request.
@@ -171,7 +171,7 @@ pub trait DriverEnd<D, C, R: Direction<D, C>>: Sized {
         ensures record { driver_record (driver_of R.form (side self.new)) ≡ record (driver_record (driver_of R.form (side self.old))) { state = learned (driver_state (driver_of R.form (side self.old))) (control_word result) } }
         ensures known { known_of (driver_of R.form (side self.new)) ≡ known_of (driver_of R.form (side self.old)) }
     {
-        self.shake(ring, HandshakeStep::LoadControl)
+        self.control_step(ring, HandshakeStep::LoadControl)
     }
 
     /// Asks the controller to disable the queue.
@@ -183,7 +183,7 @@ pub trait DriverEnd<D, C, R: Direction<D, C>>: Sized {
         ensures record { driver_record (driver_of R.form (side self.new)) ≡ record (driver_record (driver_of R.form (side self.old))) { state = state.Stopping } }
         ensures known { known_of (driver_of R.form (side self.new)) ≡ known_of (driver_of R.form (side self.old)) }
     {
-        self.shake(ring, HandshakeStep::AskDisable);
+        self.control_step(ring, HandshakeStep::AskDisable);
     }
 }
 
@@ -195,11 +195,11 @@ pub struct ControllerPlaces {
     /// The next place to serve.
     pub serve: u16,
     /// How many descriptors the end knows to be ready, from that place on.
-    pub ahead: u16,
+    pub available: u16,
     /// Whether the end holds a fetched buffer.
     pub holding: bool,
     /// Whether the last completed segment ends a frame, or none is completed.
-    pub between: bool,
+    pub at_frame_end: bool,
     /// How far the controller is in enabling and disabling the queue.
     pub state: ControllerState,
     /// The control value that the end last loaded or stored.
@@ -209,14 +209,14 @@ pub struct ControllerPlaces {
 impl ControllerPlaces {
     /// Returns the places in a ring of this length that was never enabled.
     pub fn new(size: u16) -> ControllerPlaces
-        ensures { result ≡ record { size = size; serve = 0; ahead = 0; holding = false; between = true; state = controller_state_is.Off; seen = control.Disabled } }
+        ensures { result ≡ record { size = size; serve = 0; available = 0; holding = false; at_frame_end = true; state = controller_state_is.Off; seen = control.Disabled } }
     {
         ControllerPlaces {
             size,
             serve: 0,
-            ahead: 0,
+            available: 0,
             holding: false,
-            between: true,
+            at_frame_end: true,
             state: ControllerState::Off,
             seen: Control::Disabled,
         }
@@ -290,10 +290,10 @@ pub trait ControllerEnd<D, C, R: Direction<D, C>>: Sized {
     /// Whether the last stored or sent segment ends a frame, or none was stored or sent.
     #[inline]
     final fn is_between_frames(&self) -> bool
-        ensures value { result ≡ is_between (controller_of R.form (side self.now)) }
+        ensures value { result ≡ is_at_frame_end (controller_of R.form (side self.now)) }
         ensures rest { result ≡ true → unfinished R.form.carries (completed (controller_of R.form (side self.now))) ≡ [] }
     {
-        self.at().between
+        self.at().at_frame_end
     }
 
     /// Whether `answer` may be called: the end last loaded an enabling and does not serve, or last loaded a disabling
@@ -320,7 +320,7 @@ pub trait ControllerEnd<D, C, R: Direction<D, C>>: Sized {
         ensures ahead { known_ahead (controller_of R.form (side self.new)) ≡ result }
     {
         self.load(ring, ControllerLoad::Tail);
-        self.at().ahead as u32
+        self.at().available as u32
     }
 
     /// Loads the control word, to see whether the driver asks for enabling or disabling.

@@ -1,7 +1,8 @@
 //! The shared part of the receive and transmit rings: a driver and a controller on one descriptor ring of the 82599,
-//! without a lock. Depends on `atomic_table`, `buffer_pool`, `limits`, `refusals` and `ring_model`. Every access to a
-//! ring's table is made here, since no other code can name a table, a seat's fields or a slot; each step of an end adds
-//! its event to the end's record.
+//! without a lock.
+//! Depends on `atomic_table`, `buffer_pool`, `limits`, `refusals`, `ring_model` and `ring_laws`.
+//! Guarantees that each step of an end makes its access to the ring's table and adds its event to the end's record; no
+//! other code can name a table, a seat's fields or a slot.
 //!
 //! A ring's table has a word for each descriptor, then head, tail, control and quiet, and a slot for a buffer at each
 //! place. This crate has the values of the control word, the refusals, the records of the two ends, the table with the

@@ -8,41 +8,41 @@ use lib.ListN.{get_elem?}
 use Rattle.crossbeam_utils.specs.Register.{Turns, Forks, Merges}
 use Rattle.atomic_table.proofs.Lists.{at_set, at_snoc}
 use Rattle.teams.specs.declared.rule.Flag.{Flag}
-use Rattle.teams.specs.declared.rule.Known.{Known}
+use Rattle.teams.specs.declared.rule.PassKnowledge.{PassKnowledge}
 use Rattle.teams.specs.Rule.{known, worth, either, turned, opened, same, spent, cut, given, both, Fits, IsSettled, HasLooked, HasSet}
 
 -- ---- sums over all passes
 
-module _ (f : Known → ℕ) where
+module _ (f : PassKnowledge → ℕ) where
   -- the sum after a change of one pass
-  sum-set : (all : List Known) (i : ℕ) (v w : Known) → get_elem? all i ≡ some v → sum_by f (set all i w) + f v ≡ sum_by f all + f w
+  sum-set : (all : List PassKnowledge) (i : ℕ) (v w : PassKnowledge) → get_elem? all i ≡ some v → sum_by f (set all i w) + f v ≡ sum_by f all + f w
   sum-set [] i v w e = absurd (some-ne-none v (sym e))
   sum-set (x ∷ xs) zero v w e = omega (arith, ap f (some-injective x v e), sum_by-cons f w xs, sum_by-cons f x xs)
   sum-set (x ∷ xs) (suc i) v w e = omega (arith, sum-set xs i v w e, sum_by-cons f x (set xs i w), sum_by-cons f x xs)
 
-  sum-at : (all : List Known) (i : ℕ) (v : Known) → get_elem? all i ≡ some v → f v ≤ sum_by f all
+  sum-at : (all : List PassKnowledge) (i : ℕ) (v : PassKnowledge) → get_elem? all i ≡ some v → f v ≤ sum_by f all
   sum-at [] i v e = absurd (some-ne-none v (sym e))
   sum-at (x ∷ xs) zero v e = omega (arith, ap f (some-injective x v e), sum_by-cons f x xs)
   sum-at (x ∷ xs) (suc i) v e = omega (arith, sum-at xs i v e, sum_by-cons f x xs)
 
-abbrev share_of : Known → ℕ
+abbrev share_of : PassKnowledge → ℕ
 share_of v = v.share
 
-abbrev firsts_of : Known → ℕ
+abbrev firsts_of : PassKnowledge → ℕ
 firsts_of v = v.firsts
 
-abbrev Idle : List Known → Type 0
-Idle all = (p : ℕ) (v : Known) → get_elem? all p ≡ some v → v.share ≡ 0 → v.firsts ≡ 0
+abbrev Idle : List PassKnowledge → Type 0
+Idle all = (p : ℕ) (v : PassKnowledge) → get_elem? all p ≡ some v → v.share ≡ 0 → v.firsts ≡ 0
 
 -- passes with no share were never the first
-none-left : (all : List Known) → Idle all → sum_by share_of all ≡ 0 → sum_by firsts_of all ≡ 0
+none-left : (all : List PassKnowledge) → Idle all → sum_by share_of all ≡ 0 → sum_by firsts_of all ≡ 0
 none-left [] idle e = refl
 none-left (x ∷ xs) idle e =
     let s = sum_by-cons share_of x xs in
     omega (arith, sum_by-cons firsts_of x xs, idle 0 x refl (omega (arith, s, e)), none-left xs (λ p v. idle (suc p) v) (omega (arith, s, e)))
 
 -- a pass with all of the share was the first as often as any was
-alone : (all : List Known) (i : ℕ) (v : Known) → get_elem? all i ≡ some v → Idle all → sum_by share_of all ≡ v.share → sum_by firsts_of all ≡ v.firsts
+alone : (all : List PassKnowledge) (i : ℕ) (v : PassKnowledge) → get_elem? all i ≡ some v → Idle all → sum_by share_of all ≡ v.share → sum_by firsts_of all ≡ v.firsts
 alone [] i v e idle h = absurd (some-ne-none v (sym e))
 alone (x ∷ xs) zero v e idle h =
     let s = sum_by-cons share_of x xs in
@@ -55,24 +55,24 @@ alone (x ∷ xs) (suc i) v e idle h =
 
 -- ---- what holds of each pass
 
-abbrev AllFit : Flag → List Known → Type 0
-AllFit now all = (p : ℕ) (v : Known) → get_elem? all p ≡ some v → Fits now v
+abbrev AllFit : Flag → List PassKnowledge → Type 0
+AllFit now all = (p : ℕ) (v : PassKnowledge) → get_elem? all p ≡ some v → Fits now v
 
 -- one pass is another, and the others fit the word as it is now
-fit-set : (now : Flag) (all : List Known) (pass : ℕ) (w : Known) → AllFit now all → Fits now w → AllFit now (set all pass w)
+fit-set : (now : Flag) (all : List PassKnowledge) (pass : ℕ) (w : PassKnowledge) → AllFit now all → Fits now w → AllFit now (set all pass w)
 fit-set now all pass w each one p v e = ⊎_elim
     (λ (t : (p ≡ pass) × (w ≡ v)). subst (Fits now) t.1 one)
     (λ (t : (p ≢ pass) × (get_elem? all p ≡ some v)). each p v t.1)
     (at_set all pass p w v e)
 
-fit-more : (now : Flag) (all : List Known) (w : Known) → AllFit now all → Fits now w → AllFit now (all ++ w ∷ [])
+fit-more : (now : Flag) (all : List PassKnowledge) (w : PassKnowledge) → AllFit now all → Fits now w → AllFit now (all ++ w ∷ [])
 fit-more now all w each one p v e = ⊎_elim (λ was. each p v was) (λ (t : w ≡ v). subst (Fits now) t one) (at_snoc all w v p e)
 
 -- where the word becomes set, what fitted fits
-fit-now : (was now : Flag) (all : List Known) → now.set ≡ true → AllFit was all → AllFit now all
+fit-now : (was now : Flag) (all : List PassKnowledge) → now.set ≡ true → AllFit was all → AllFit now all
 fit-now was now all is each p v e = record { idle = (each p v e).idle; seen = λ saw. is }
 
-idle-of : (now : Flag) (all : List Known) → AllFit now all → Idle all
+idle-of : (now : Flag) (all : List PassKnowledge) → AllFit now all → Idle all
 idle-of now all each p v e = (each p v e).idle
 
 -- ---- the steps
@@ -88,9 +88,9 @@ unseen : (a b : Bool) → (a ≡ true → b ≡ true) → b ≡ false → a ≡ 
 unseen true b was not = sym (was refl) ∙ not
 unseen false b was not = refl
 
-pub looks : (pass : ℕ) (old : Known) → Turns IsSettled pass old (λ x. x) HasLooked
+pub looks : (pass : ℕ) (old : PassKnowledge) → Turns IsSettled pass old (λ x. x) HasLooked
 looks pass old x all h at =
-    let new : Known = known old.share old.firsts x.set in (
+    let new : PassKnowledge = known old.share old.firsts x.set in (
       new,
       record {
         shares = omega (arith, sum-set share_of all pass old new at, h.shares);
@@ -109,9 +109,9 @@ worth-turned : (b : Bool) → worth b + worth (turned b) ≡ 1
 worth-turned true = refl
 worth-turned false = refl
 
-pub sets : (pass : ℕ) (old : Known) (now : Flag) → now.set ≡ true → 0 < old.share → Turns IsSettled pass old (λ _. now) HasSet
+pub sets : (pass : ℕ) (old : PassKnowledge) (now : Flag) → now.set ≡ true → 0 < old.share → Turns IsSettled pass old (λ _. now) HasSet
 sets pass old now is some_share x all h at =
-    let new : Known = known old.share (old.firsts + worth (turned x.set)) true in (
+    let new : PassKnowledge = known old.share (old.firsts + worth (turned x.set)) true in (
       new,
       record {
         shares = omega (arith, sum-set share_of all pass old new at, h.shares);
@@ -122,7 +122,7 @@ sets pass old now is some_share x all h at =
     )
 
 -- a pass is cut in two, which have together what it had
-forks : (pass : ℕ) (old left right : Known) → left.share + right.share ≡ old.share → left.firsts + right.firsts ≡ old.firsts
+forks : (pass : ℕ) (old left right : PassKnowledge) → left.share + right.share ≡ old.share → left.firsts + right.firsts ≡ old.firsts
     → ((now : Flag) → Fits now old → Fits now left × Fits now right) → Forks IsSettled pass old left right
 forks pass old left right shares firsts fit x all h at =
     let fits = fit x (h.each pass old at) in
@@ -132,7 +132,7 @@ forks pass old left right shares firsts fit x all h at =
       each = fit-more x (set all pass left) right (fit-set x all pass left h.each fits.0) fits.1;
     }
 
-pub parts : (pass : ℕ) (old : Known) → 1 < old.share → Forks IsSettled pass old (cut old) (given old)
+pub parts : (pass : ℕ) (old : PassKnowledge) → 1 < old.share → Forks IsSettled pass old (cut old) (given old)
 parts pass old more = forks pass old (cut old) (given old) (omega (arith, more)) (omega arith)
     (λ now fits. (
       record { idle = λ none. absurd (omega (arith, none, more)); seen = fits.seen },
@@ -142,14 +142,14 @@ parts pass old more = forks pass old (cut old) (given old) (omega (arith, more))
 fits-spent : (now : Flag) → Fits now spent
 fits-spent now = record { idle = λ none. refl; seen = λ saw. absurd (false≢true saw) }
 
-pub leaves : (pass : ℕ) (old : Known) → Forks IsSettled pass old spent (same old)
+pub leaves : (pass : ℕ) (old : PassKnowledge) → Forks IsSettled pass old spent (same old)
 leaves pass old = forks pass old spent (same old) (omega arith) (omega arith) (λ now fits. (fits-spent now, fits))
 
 either-seen : (a b : Bool) (P : Type 0) → (a ≡ true → P) → (b ≡ true → P) → either a b ≡ true → P
 either-seen true b P one other saw = one refl
 either-seen false b P one other saw = other saw
 
-pub meets : (pass : ℕ) (old : Known) (other : ℕ) (w : Known) → Merges IsSettled pass old other w (both old w) spent
+pub meets : (pass : ℕ) (old : PassKnowledge) (other : ℕ) (w : PassKnowledge) → Merges IsSettled pass old other w (both old w) spent
 meets pass old other w x all h at apart at_other =
     let fits_old = h.each pass old at in
     let fits_w = h.each other w (was-there all pass other (both old w) w apart at_other) in
@@ -162,5 +162,5 @@ meets pass old other w x all h at apart at_other =
           (fits-spent x);
     }
   where
-    was-there : (all : List Known) (pass other : ℕ) (b w : Known) → ¬ (other ≡ pass) → get_elem? (set all pass b) other ≡ some w → get_elem? all other ≡ some w
+    was-there : (all : List PassKnowledge) (pass other : ℕ) (b w : PassKnowledge) → ¬ (other ≡ pass) → get_elem? (set all pass b) other ≡ some w → get_elem? all other ≡ some w
     was-there all pass other b w apart e = ⊎_elim (λ (t : (other ≡ pass) × (b ≡ w)). absurd (apart t.0)) (λ (t : (other ≢ pass) × (get_elem? all other ≡ some w)). t.1) (at_set all pass other b w e)

@@ -13,4 +13,4 @@ IsDealt {X} items hands = (w : ℕ) (d : List X) → w < length hands → slice_
 
 -- The turn passes to the next of `count` hands, and from the last to the first.
 abbrev pub Passes : ℕ → ℕ → ℕ → Type 0
-Passes count turn turn' = ((turn + 1 ≡ count) × (turn' ≡ 0)) ⊎ ((turn + 1 < count) × (turn' ≡ turn + 1))
+Passes count worker worker' = ((worker + 1 ≡ count) × (worker' ≡ 0)) ⊎ ((worker + 1 < count) × (worker' ≡ worker + 1))

@@ -23,13 +23,13 @@ Tells firsts seen (Refused e) = 0 < firsts
 Tells firsts seen Stopped = (firsts ≡ 0) × (seen ≡ true)
 
 -- The state of a piece of work: its stop word, its share of that word, and its ending.
-pub record Stood : Type 0 where
+pub record Status : Type 0 where
   pub word : TableId
   pub share : ℕ
   pub ending : Ending
 
-abbrev pub stood : TableId → ℕ → Ending → Stood
-stood word share ending = record { word = word; share = share; ending = ending }
+abbrev pub status_of : TableId → ℕ → Ending → Status
+status_of word share ending = record { word = word; share = share; ending = ending }
 
 module _ {G : Type 0} where
   -- The ending is true: `all` holds if it is Done, and a refusal is one that can happen.
@@ -39,5 +39,5 @@ module _ {G : Type 0} where
   IsSo all answers gate Stopped = Unit {0}
 
   -- Work with a share of 1 of the stop word and a true ending.
-  abbrev pub IsEnded : Type 0 → (G → Who → Event → Bool → Type 0) → G → TableId → Stood → Type 0
+  abbrev pub IsEnded : Type 0 → (G → Who → Event → Bool → Type 0) → G → TableId → Status → Type 0
   IsEnded all answers gate word s = IsSo all answers gate s.ending × (s.word ≡ word) × (s.share ≡ 1)

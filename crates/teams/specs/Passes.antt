@@ -1,7 +1,7 @@
 -- The view of a pass in contracts.
 use Rattle.std.specs.Prelude.{ℕ, ◌+◌, Bool, false}
 use Rattle.atomic_table.specs.Seated.{TableId}
-use Rattle.teams.specs.declared.rule.Known.{Known}
+use Rattle.teams.specs.declared.rule.PassKnowledge.{PassKnowledge}
 use Rattle.teams.specs.Rule.{either, whole_share}
 
 -- The pass's word, its share, how often it was the first to set the word, and whether it saw the word set.
@@ -11,7 +11,7 @@ pub record Passed : Type 0 where
   pub firsts : ℕ
   pub seen : Bool
 
-abbrev pub passed : TableId → Known → Passed
+abbrev pub passed : TableId → PassKnowledge → Passed
 passed word v = record { word = word; share = v.share; firsts = v.firsts; seen = v.seen }
 
 -- The pass that a new word comes with.

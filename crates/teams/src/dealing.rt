@@ -15,21 +15,21 @@ pub fn deal<T: Drop>(items: Vec<T>, mut hands: Vec<Vec<T>>) -> Vec<Vec<T>>
     ensures count { vec_len result ≡ vec_len hands }
     ensures dealt { IsDealt items.items (map (λ h. h.items) result.items) }
 {
-    let mut turn = 0;
+    let mut worker = 0;
     for item in items {
-        hands[turn].push_reserved(item);
-        turn = next_turn(turn, hands.len());
+        hands[worker].push_reserved(item);
+        worker = next_worker(worker, hands.len());
     }
     hands
 }
 
 /// The hand that is next in turn.
-fn next_turn(turn: usize, count: usize) -> usize
-    requires { turn < count }
+fn next_worker(worker: usize, count: usize) -> usize
+    requires { worker < count }
     ensures in_row { result < count }
-    ensures passes { Passes count turn result }
+    ensures passes { Passes count worker result }
 {
-    if turn + 1 == count { 0 } else { turn + 1 }
+    if worker + 1 == count { 0 } else { worker + 1 }
 }
 
 /// A vector of `count` empty hands, each with room for `room` items.
@@ -57,10 +57,10 @@ pub fn gather<F: Flow>(mut hands: Vec<Vec<F>>, total: usize, mut room: Vec<F>) -
     ensures keys { (keys : List F.Key) → length keys ≡ total → IsDealt keys (hand_keys F.key hands.items) → map F.key result.items ≡ keys }
     ensures over { AllOver F.over hands.items → All (λ f. F.over f ≡ true) result.items }
 {
-    let mut turn = 0;
+    let mut worker = 0;
     for _ in 0..total {
-        move_first(&mut hands[turn], &mut room);
-        turn = next_turn(turn, hands.len());
+        move_first(&mut hands[worker], &mut room);
+        worker = next_worker(worker, hands.len());
     }
     room
 }

@@ -1,6 +1,6 @@
 //! Workers in threads of their own, which serve flows by turns.
 //! Depends on `refusals`, `crossbeam_utils` and `atomic_table`; it knows neither rings nor buffers.
-//! Every started worker is joined, and all flows come back.
+//! Guarantees that every started worker is joined, and that all flows come back.
 //!
 //! A [`Flow`] is one side of a flow as a worker serves it, turn by turn. A [`Gate`] is passed before each call that makes
 //! steps, so that a caller can hold or end what runs.
@@ -18,7 +18,7 @@ mod gate;
 mod rule;
 mod running;
 mod serving;
-mod standing;
+mod status;
 mod team;
 mod word;
 

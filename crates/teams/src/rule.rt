@@ -31,7 +31,7 @@ impl Words<1> for Flag {
 }
 
 /// The knowledge of a pass, for contracts alone; no value of it exists at run time.
-pub struct Known {
+pub struct PassKnowledge {
     /// The pass's share of the word.
     pub share: u64,
     /// How often the pass was the first to set the word.
@@ -44,7 +44,7 @@ pub struct Known {
 /// set, and never otherwise. A pass without a share was never the first, and a pass that saw the word set was right.
 pub(crate) struct Once;
 
-impl Protocol<Flag, Known> for Once {
+impl Protocol<Flag, PassKnowledge> for Once {
     ghost use Rattle.teams.specs.Rule.{IsSettled, opened};
 
     ghost holds = { IsSettled };
@@ -55,7 +55,7 @@ impl Protocol<Flag, Known> for Once {
 /// A pass looks at the word.
 pub(crate) struct Looks;
 
-impl Outcome<Flag, Known> for Looks {
+impl Outcome<Flag, PassKnowledge> for Looks {
     ghost use Rattle.teams.specs.Rule.{HasLooked};
 
     ghost then = { HasLooked };
@@ -64,7 +64,7 @@ impl Outcome<Flag, Known> for Looks {
 /// A pass sets the word.
 pub(crate) struct Sets;
 
-impl Outcome<Flag, Known> for Sets {
+impl Outcome<Flag, PassKnowledge> for Sets {
     ghost use Rattle.teams.specs.Rule.{HasSet};
 
     ghost then = { HasSet };
@@ -73,7 +73,7 @@ impl Outcome<Flag, Known> for Sets {
 /// A pass gives away a share of 1.
 pub(crate) struct Parts;
 
-impl Split<Known> for Parts {
+impl Split<PassKnowledge> for Parts {
     ghost use Rattle.teams.specs.Rule.{cut, given};
 
     ghost left = { cut };
@@ -84,7 +84,7 @@ impl Split<Known> for Parts {
 /// A pass moves all that it has to a new one.
 pub(crate) struct Leaves;
 
-impl Split<Known> for Leaves {
+impl Split<PassKnowledge> for Leaves {
     ghost use Rattle.teams.specs.Rule.{same, spent};
 
     ghost left = { λ _. spent };
@@ -95,7 +95,7 @@ impl Split<Known> for Leaves {
 /// Two passes are joined.
 pub(crate) struct Meets;
 
-impl Join<Known> for Meets {
+impl Join<PassKnowledge> for Meets {
     ghost use Rattle.teams.specs.Rule.{both, spent};
 
     ghost both = { both };
@@ -112,29 +112,29 @@ pub(crate) fn may_open(now: Flag)
 {}
 
 /// Any pass may look.
-pub(crate) fn may_look(pass: &Pass<Flag, Known>)
+pub(crate) fn may_look(pass: &Pass<Flag, PassKnowledge>)
     ensures { Turns IsSettled pass.now.id (cell_view pass.now) (λ x. x) HasLooked }
 {}
 
 /// A pass with a share may set the word.
-pub(crate) fn may_set(pass: &Pass<Flag, Known>, now: Flag)
+pub(crate) fn may_set(pass: &Pass<Flag, PassKnowledge>, now: Flag)
     requires set { now.set ≡ true }
     requires share { 0 < (cell_view pass.now).share }
     ensures { Turns IsSettled pass.now.id (cell_view pass.now) (λ _. now) HasSet }
 {}
 
 /// A pass with a share of more than 1 may give away 1.
-pub(crate) fn may_part(pass: &Pass<Flag, Known>)
+pub(crate) fn may_part(pass: &Pass<Flag, PassKnowledge>)
     requires { 1 < (cell_view pass.now).share }
     ensures { Forks IsSettled pass.now.id (cell_view pass.now) (cut (cell_view pass.now)) (given (cell_view pass.now)) }
 {}
 
 /// A pass may move all that it has to a new one.
-pub(crate) fn may_leave(pass: &Pass<Flag, Known>)
+pub(crate) fn may_leave(pass: &Pass<Flag, PassKnowledge>)
     ensures { Forks IsSettled pass.now.id (cell_view pass.now) spent (same (cell_view pass.now)) }
 {}
 
 /// Two passes may be joined.
-pub(crate) fn may_meet(pass: &Pass<Flag, Known>, other: &Pass<Flag, Known>)
+pub(crate) fn may_meet(pass: &Pass<Flag, PassKnowledge>, other: &Pass<Flag, PassKnowledge>)
     ensures { Merges IsSettled pass.now.id (cell_view pass.now) other.now.id (cell_view other.now) (both (cell_view pass.now) (cell_view other.now)) spent }
 {}

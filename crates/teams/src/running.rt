@@ -6,7 +6,7 @@ ghost use Rattle.teams.specs.Refusals.{Halted};
 
 use crate::flow::Flow;
 use crate::gate::Gate;
-use crate::standing::Standing;
+use crate::status::WorkerStatus;
 use crate::team::{Begun, join_each, start};
 use crate::word::{StopPass, StopWord};
 use refusals::ForwardError;
@@ -90,13 +90,13 @@ fn run_in<'s, 'e: 's, D: Flow + 's, C: Flow + 's, R: Threads + Wait + Sync, G: G
             refusal: Some(ForwardError::Memory),
         };
     };
-    let mut all = Standing::new(pass);
+    let mut all = WorkerStatus::new(pass);
     let drivers = start(scope, rt, stop, gate, drivers, driven.team, &mut all);
     let controllers = start(scope, rt, stop, gate, controllers, served.team, &mut all);
     let drivers = join_each(rt, stop, gate, drivers, driven.hands, all.split(stop));
     let controllers = join_each(rt, stop, gate, controllers, served.hands, all.split(stop));
-    all.join(stop, drivers.standing);
-    all.join(stop, controllers.standing);
+    all.join(stop, drivers.status);
+    all.join(stop, controllers.status);
     Ran {
         drivers: drivers.hands,
         controllers: controllers.hands,

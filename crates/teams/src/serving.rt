@@ -6,7 +6,7 @@ ghost use Rattle.teams.specs.Endings.{IsSo};
 
 use crate::flow::{Flow, Progress};
 use crate::gate::Gate;
-use crate::standing::Standing;
+use crate::status::WorkerStatus;
 use crate::word::StopWord;
 use std::sync::Wait;
 use std::{hint, thread};
@@ -19,7 +19,7 @@ const SPINS: u32 = 64;
 #[derive(Drop)]
 pub(crate) struct Served<F: Drop> {
     pub flows: Vec<F>,
-    pub standing: Standing,
+    pub status: WorkerStatus,
 }
 
 /// The outcome of one round.
@@ -40,16 +40,16 @@ fn serve_round<F: Flow, R: Wait, G: Gate>(
     stop: &StopWord,
     gate: &G,
     flows: &mut [F],
-    standing: &mut Standing,
+    status: &mut WorkerStatus,
 ) -> Round
-    requires own { standing.old.word ≡ stop.now }
-    requires share { 0 < standing.old.share }
-    requires going { standing.old.ending ≡ Done }
+    requires own { status.old.word ≡ stop.now }
+    requires share { 0 < status.old.share }
+    requires going { status.old.ending ≡ Done }
     ensures keys { map F.key flows.new ≡ map F.key flows.old }
-    ensures word { standing.new.word ≡ standing.old.word }
-    ensures share { standing.new.share ≡ standing.old.share }
-    ensures going { (result ≡ Busy) ⊎ (result ≡ Idle) → standing.new.ending ≡ Done }
-    ensures ending { result ≡ Ended → IsSo (All (λ f. F.over f ≡ true) flows.new) G.answers gate.now standing.new.ending }
+    ensures word { status.new.word ≡ status.old.word }
+    ensures share { status.new.share ≡ status.old.share }
+    ensures going { (result ≡ Busy) ⊎ (result ≡ Idle) → status.new.ending ≡ Done }
+    ensures ending { result ≡ Ended → IsSo (All (λ f. F.over f ≡ true) flows.new) G.answers gate.now status.new.ending }
 {
     let mut all_over = true;
     let mut busy = false;
@@ -58,14 +58,14 @@ fn serve_round<F: Flow, R: Wait, G: Gate>(
             continue;
         }
         all_over = false;
-        if standing.is_stopped(rt, stop) {
+        if status.is_stopped(rt, stop) {
             return Round::Ended;
         }
         match flows[i].turn(rt, gate) {
             Ok(Progress::Idle) => {}
             Ok(_) => busy = true,
             Err(refusal) => {
-                standing.refuse(rt, stop, refusal);
+                status.refuse(rt, stop, refusal);
                 return Round::Ended;
             }
         }
@@ -86,22 +86,22 @@ pub(crate) fn serve<F: Flow, R: Wait, G: Gate>(
     stop: &StopWord,
     gate: &G,
     mut flows: Vec<F>,
-    mut standing: Standing,
+    mut status: WorkerStatus,
 ) -> Served<F>
-    requires own { standing.word ≡ stop.now }
-    requires share { 0 < standing.share }
-    requires going { standing.ending ≡ Done }
+    requires own { status.word ≡ stop.now }
+    requires share { 0 < status.share }
+    requires going { status.ending ≡ Done }
     ensures keys { map F.key result.flows.items ≡ map F.key flows.items }
-    ensures word { result.standing.word ≡ standing.word }
-    ensures share { result.standing.share ≡ standing.share }
-    ensures ending { IsSo (All (λ f. F.over f ≡ true) result.flows.items) G.answers gate.now result.standing.ending }
+    ensures word { result.status.word ≡ status.word }
+    ensures share { result.status.share ≡ status.share }
+    ensures ending { IsSo (All (λ f. F.over f ≡ true) result.flows.items) G.answers gate.now result.status.ending }
 {
     let mut idle = 0;
     for _ in rt.forever() {
-        match serve_round(rt, stop, gate, flows.as_mut_slice(), &mut standing) {
+        match serve_round(rt, stop, gate, flows.as_mut_slice(), &mut status) {
             Round::Busy => idle = 0,
             Round::Idle => idle = rest(idle),
-            Round::Ended => return Served { flows, standing },
+            Round::Ended => return Served { flows, status },
         }
     }
     unreachable!()

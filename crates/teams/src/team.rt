@@ -7,7 +7,7 @@ ghost use Rattle.teams.specs.Endings.{IsEnded, IsSo};
 use crate::flow::Flow;
 use crate::gate::Gate;
 use crate::serving::{Served, serve};
-use crate::standing::Standing;
+use crate::status::WorkerStatus;
 use crate::word::StopWord;
 use refusals::ForwardError;
 use std::snapshot::Snapshot;
@@ -26,7 +26,7 @@ impl<'g, F: Flow, G: Gate> Promise<Served<F>> for Serves<'g, F, G> {
     ghost use Rattle.std.specs.Prelude.{◌≡◌, true, All, map};
     ghost use Rattle.teams.specs.Endings.{IsEnded};
 
-    ghost kept_by = { λ p r. (map F.key r.flows.items ≡ map F.key p.given.value.items) × IsEnded (All (λ f. F.over f ≡ true) r.flows.items) G.answers p.gate.now p.stop.now r.standing };
+    ghost kept_by = { λ p r. (map F.key r.flows.items ≡ map F.key p.given.value.items) × IsEnded (All (λ f. F.over f ≡ true) r.flows.items) G.answers p.gate.now p.stop.now r.status };
 }
 
 /// A worker that was started.
@@ -42,22 +42,22 @@ fn begin<'s, 'e: 's, F: Flow + 's, R: Threads + Wait + Sync, G: Gate + Sync>(
     stop: &'e StopWord,
     gate: &'e G,
     hand: Vec<F>,
-    starting: &mut Standing,
+    starting: &mut WorkerStatus,
 ) -> Begun<'e, F, G>
     requires own { starting.old.word ≡ stop.now }
     requires share { 1 < starting.old.share }
     requires so { IsSo (Unit {0}) G.answers gate.now starting.old.ending }
     ensures given { given_by (λ w. map F.key w.promise.given.value.items) (λ s. map F.key s.flows.items) result ≡ map F.key hand.items }
-    ensures so { MatchResult result (λ w. (w.promise.gate.now ≡ gate.now) × (w.promise.stop.now ≡ stop.now)) (λ s. IsEnded (All (λ f. F.over f ≡ true) s.flows.items) G.answers gate.now stop.now s.standing) }
+    ensures so { MatchResult result (λ w. (w.promise.gate.now ≡ gate.now) × (w.promise.stop.now ≡ stop.now)) (λ s. IsEnded (All (λ f. F.over f ≡ true) s.flows.items) G.answers gate.now stop.now s.status) }
     ensures word { starting.new.word ≡ starting.old.word }
     ensures share { starting.new.share + 1 ≡ starting.old.share }
     ensures starting { IsSo (Unit {0}) G.answers gate.now starting.new.ending }
 {
-    let mut standing = starting.split(stop);
-    if standing.is_stopped(rt, stop) {
+    let mut status = starting.split(stop);
+    if status.is_stopped(rt, stop) {
         return Err(Served {
             flows: hand,
-            standing,
+            status,
         });
     }
     let promise = Serves {
@@ -66,10 +66,10 @@ fn begin<'s, 'e: 's, F: Flow + 's, R: Threads + Wait + Sync, G: Gate + Sync>(
         stop,
     };
     let work = move ||
-        requires own { standing.word ≡ stop.now }
-        requires share { standing.share ≡ 1 }
-        requires going { standing.ending ≡ Done }
-    { serve(rt, stop, gate, hand, standing) };
+        requires own { status.word ≡ stop.now }
+        requires share { status.share ≡ 1 }
+        requires going { status.ending ≡ Done }
+    { serve(rt, stop, gate, hand, status) };
     match scope.spawn_with(promise, work) {
         Ok(worker) => Ok(worker),
         Err(refused) => {
@@ -88,7 +88,7 @@ pub(crate) fn start<'s, 'e: 's, F: Flow + 's, R: Threads + Wait + Sync, G: Gate 
     gate: &'e G,
     hands: Vec<Vec<F>>,
     mut team: Vec<Begun<'e, F, G>>,
-    starting: &mut Standing,
+    starting: &mut WorkerStatus,
 ) -> Vec<Begun<'e, F, G>>
     requires none { team.items ≡ [] }
     requires room { vec_len hands ≤ vec_capacity team }
@@ -96,7 +96,7 @@ pub(crate) fn start<'s, 'e: 's, F: Flow + 's, R: Threads + Wait + Sync, G: Gate 
     requires share { vec_len hands < starting.old.share }
     requires so { IsSo (Unit {0}) G.answers gate.now starting.old.ending }
     ensures given { map (given_by (λ w. map F.key w.promise.given.value.items) (λ s. map F.key s.flows.items)) result.items ≡ hand_keys F.key hands.items }
-    ensures so { All (λ b. MatchResult b (λ w. (w.promise.gate.now ≡ gate.now) × (w.promise.stop.now ≡ stop.now)) (λ s. IsEnded (All (λ f. F.over f ≡ true) s.flows.items) G.answers gate.now stop.now s.standing)) result.items }
+    ensures so { All (λ b. MatchResult b (λ w. (w.promise.gate.now ≡ gate.now) × (w.promise.stop.now ≡ stop.now)) (λ s. IsEnded (All (λ f. F.over f ≡ true) s.flows.items) G.answers gate.now stop.now s.status)) result.items }
     ensures count { vec_len result ≡ vec_len hands }
     ensures word { starting.new.word ≡ starting.old.word }
     ensures share { starting.new.share + vec_len result ≡ starting.old.share }
@@ -112,7 +112,7 @@ pub(crate) fn start<'s, 'e: 's, F: Flow + 's, R: Threads + Wait + Sync, G: Gate 
 #[derive(Drop)]
 pub(crate) struct Joined<F: Drop> {
     pub hands: Vec<Vec<F>>,
-    pub standing: Standing,
+    pub status: WorkerStatus,
 }
 
 /// Waits for a hand's worker to end, and returns its flows.
@@ -122,9 +122,9 @@ fn join_one<R: Threads, F: Flow, G: Gate>(
     gate: &G,
     begun: Begun<'_, F, G>,
 ) -> Served<F>
-    requires so { MatchResult begun (λ w. (w.promise.gate.now ≡ gate.now) × (w.promise.stop.now ≡ stop.now)) (λ s. IsEnded (All (λ f. F.over f ≡ true) s.flows.items) G.answers gate.now stop.now s.standing) }
+    requires so { MatchResult begun (λ w. (w.promise.gate.now ≡ gate.now) × (w.promise.stop.now ≡ stop.now)) (λ s. IsEnded (All (λ f. F.over f ≡ true) s.flows.items) G.answers gate.now stop.now s.status) }
     ensures keys { map F.key result.flows.items ≡ given_by (λ w. map F.key w.promise.given.value.items) (λ s. map F.key s.flows.items) begun.entry }
-    ensures ended { IsEnded (All (λ f. F.over f ≡ true) result.flows.items) G.answers gate.now stop.now result.standing }
+    ensures ended { IsEnded (All (λ f. F.over f ≡ true) result.flows.items) G.answers gate.now stop.now result.status }
 {
     let _stop = stop;
     match begun {
@@ -141,22 +141,22 @@ pub(crate) fn join_each<R: Threads, F: Flow, G: Gate>(
     gate: &G,
     team: Vec<Begun<'_, F, G>>,
     mut hands: Vec<Vec<F>>,
-    mut standing: Standing,
+    mut status: WorkerStatus,
 ) -> Joined<F>
     requires none { hands.items ≡ [] }
     requires room { vec_len team ≤ vec_capacity hands }
-    requires so { All (λ b. MatchResult b (λ w. (w.promise.gate.now ≡ gate.now) × (w.promise.stop.now ≡ stop.now)) (λ s. IsEnded (All (λ f. F.over f ≡ true) s.flows.items) G.answers gate.now stop.now s.standing)) team.items }
-    requires own { standing.word ≡ stop.now }
-    requires done { standing.ending ≡ Done }
+    requires so { All (λ b. MatchResult b (λ w. (w.promise.gate.now ≡ gate.now) × (w.promise.stop.now ≡ stop.now)) (λ s. IsEnded (All (λ f. F.over f ≡ true) s.flows.items) G.answers gate.now stop.now s.status)) team.items }
+    requires own { status.word ≡ stop.now }
+    requires done { status.ending ≡ Done }
     ensures keys { hand_keys F.key result.hands.items ≡ map (given_by (λ w. map F.key w.promise.given.value.items) (λ s. map F.key s.flows.items)) team.entry.items }
-    ensures word { result.standing.word ≡ stop.now }
-    ensures share { result.standing.share ≡ standing.share + vec_len team.entry }
-    ensures ending { IsSo (AllOver F.over result.hands.items) G.answers gate.now result.standing.ending }
+    ensures word { result.status.word ≡ stop.now }
+    ensures share { result.status.share ≡ status.share + vec_len team.entry }
+    ensures ending { IsSo (AllOver F.over result.hands.items) G.answers gate.now result.status.ending }
 {
     for begun in team {
         let served = join_one(rt, stop, gate, begun);
-        standing.join(stop, served.standing);
+        status.join(stop, served.status);
         hands.push_reserved(served.flows);
     }
-    Joined { hands, standing }
+    Joined { hands, status }
 }

@@ -12,8 +12,8 @@ ghost use Rattle.teams.specs.Passes.{first_pass, joined, part_of};
 ghost use Rattle.teams.specs.Rule.{whole_share, worth};
 
 use crate::rule::{
-    Flag, Known, Leaves, Looks, Meets, Once, Parts, Sets, may_leave, may_look, may_meet, may_open,
-    may_part, may_set,
+    Flag, Leaves, Looks, Meets, Once, Parts, PassKnowledge, Sets, may_leave, may_look, may_meet,
+    may_open, may_part, may_set,
 };
 use crossbeam_utils::atomic::seq_cell::{Pass, RuledSeqCell};
 use std::alloc::{AllocError, Global};
@@ -22,7 +22,7 @@ use std::sync::Wait;
 use std::sync::atomic::{AtomicBool, Ordering};
 
 /// The word, under its rule.
-type Ruled = RuledSeqCell<Flag, Known, Once, 1>;
+type Ruled = RuledSeqCell<Flag, PassKnowledge, Once, 1>;
 
 /// A word that is set once. Threads share it.
 #[derive(Drop)]
@@ -36,7 +36,7 @@ pub struct StopWord {
 /// The right to look at a stop word and to set it. It has no bytes.
 #[derive(Drop)]
 pub struct StopPass {
-    pass: Pass<Flag, Known>,
+    pass: Pass<Flag, PassKnowledge>,
 }
 
 impl Model for StopWord {

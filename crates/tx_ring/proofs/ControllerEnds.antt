@@ -59,7 +59,7 @@ module _ (c : ControllerSide) (at : ControllerPlaces) (last : ℕ) (ends asks ow
     })
 
     pub fetched : (read : TxRead) → read.number ≡ buf.number → read.len ≡ length buf.bytes → read.eop ≡ eop_of word → read.rs ≡ rs_of word → read.paylen ≡ paylen_of word → Fetched now buf read new
-    fetched read number len e r p = let i = h.ahead_is in subst (λ (s : ControllerSide). Fetched s buf read new) was (record {
+    fetched read number len e r p = let i = h.available_is in subst (λ (s : ControllerSide). Fetched s buf read new) was (record {
       word = word;
       step = f.step ∙ ap (λ (k : ℕ). controller_grown c (controller.Fetched k word buf)) h.serve_is;
       word_is = f.fetched.word_is ∙ ap (λ (b : Bool). tx_word (length buf.bytes) b (rs_of word) (paylen_of word)) (sym e) ∙ ap (λ (b : Bool). tx_word (length buf.bytes) read.eop b (paylen_of word)) (sym r) ∙ ap (λ (v : ℕ). tx_word (length buf.bytes) read.eop read.rs v) (sym p);
@@ -80,8 +80,8 @@ module _ (c : ControllerSide) (at : ControllerPlaces) (last : ℕ) (ends asks ow
     holds : at.holding ≡ true
     holds = h.held_is ∙ some-there x.held buf (ap held was ∙ holds_it)
 
-    pub some-ready : 0 < at.ahead
-    some-ready = h.held_ahead holds
+    pub some-ready : 0 < at.available
+    some-ready = h.held_available holds
 
     pub holder-serves : is_serving (controller_state c) ≡ true
     holder-serves = h.held_serving holds
@@ -90,9 +90,9 @@ module _ (c : ControllerSide) (at : ControllerPlaces) (last : ℕ) (ends asks ow
     send-head head e = shared.next-is carried (controller_size c) x at h.server head e
 
     module _ (new : ControllerSide) (head : ℕ) (is : head ≡ (if (at.serve + 1) == controller_size c then 0 else (at.serve + 1))) (step : new ≡ controller_grown c (controller.Own (Sent head (held_word c) buf))) where
-      pub send-keeps : IsControllerEnd new (record at { serve = head; ahead = at.ahead - 1; holding = false; between = ends }) at.serve ends asks asks
+      pub send-keeps : IsControllerEnd new (record at { serve = head; available = at.available - 1; holding = false; at_frame_end = ends }) at.serve ends asks asks
       send-keeps = let len = length-append x.completed (posting_of (held_word c) buf ∷ []) in
-          end-after c new (controller.Own (Sent head (held_word c) buf)) (record at { serve = head; ahead = at.ahead - 1; holding = false; between = ends }) at.serve ends asks asks step (record {
+          end-after c new (controller.Own (Sent head (held_word c) buf)) (record at { serve = head; available = at.available - 1; holding = false; at_frame_end = ends }) at.serve ends asks asks step (record {
             server = server-completed carried (controller_size c) x at h.server (posting_of (held_word c) buf) head ends holds is (h.ends_is holds) head (rs_of (held_word c));
             head_is = λ f. send-head head is ∙ ap (λ (j : ℕ). j % n) (sym len);
             ends_is = λ f. absurd (false≢true f);

@@ -13,9 +13,9 @@ use Rattle.ring_laws.specs.Lists.{slice_get-front}
 use Rattle.ring_laws.specs.States.{open_unanswered, live_unanswered}
 use Rattle.shared_ring.specs.declared.ends.DriverPlaces.{DriverPlaces}
 use Rattle.shared_ring.specs.declared.ends.HandshakeStep.{HandshakeStep}
-use Rattle.shared_ring.specs.Calls.{IsPoster, MayShake, shake_event, shaken}
+use Rattle.shared_ring.specs.Calls.{IsPoster, MayControlStep, control_event, after_control_step}
 use Rattle.shared_ring.proofs.Laying.{slice_get-last}
-use Rattle.shared_ring.proofs.Posting.{record-after, known-after, anew, poster-anew, poster-post, poster-back, poster-shaken, poster-published, shaken-record, shaken-known}
+use Rattle.shared_ring.proofs.Posting.{record-after, known-after, anew, poster-anew, poster-post, poster-back, poster-control_stepped, poster-published, control_stepped-record, control_stepped-known}
 use Rattle.shared_ring.proofs.Serving.{whole-snoc}
 use Rattle.tx_ring.specs.Records.{Posting, TxDriven, DriverStep, drive, Knowing, unknown, know}
 use Rattle.tx_ring.specs.Ends.{DriverSide, driver_size, driver_record, driver_state, known_of, driver_grown}
@@ -58,8 +58,8 @@ module _ (n : ℕ) (x : TxDriven) (k : Knowing) (at : DriverPlaces) (seen done u
   pub end-left : (y : TxDriven) (head : Option ℕ) (at' : DriverPlaces) → IsPoster n y at' → y.posted ≡ x.posted → y.reaped ≡ x.reaped → IsEndOf n y (record k { head = head }) at' seen done unseen whole asks passed
   end-left y head at' p posted reaped = end-with y head at' passed p posted reaped h.passed_by
 
-  pub end-shaken : (step : HandshakeStep) (w : ℕ) → MayShake step x.state → IsEndOf n (record x { state = shaken step x.state w }) k (record at { state = shaken step at.state w }) seen done unseen whole asks passed
-  end-shaken step w may = end-left (record x { state = shaken step x.state w }) k.head (record at { state = shaken step at.state w }) (poster-shaken n x at h.poster step w may) refl refl
+  pub end-control_stepped : (step : HandshakeStep) (w : ℕ) → MayControlStep step x.state → IsEndOf n (record x { state = after_control_step step x.state w }) k (record at { state = after_control_step step at.state w }) seen done unseen whole asks passed
+  end-control_stepped step w may = end-left (record x { state = after_control_step step x.state w }) k.head (record at { state = after_control_step step at.state w }) (poster-control_stepped n x at h.poster step w may) refl refl
 
   pub end-published : (published : ℕ) → IsEndOf n (record x { published = published }) k at seen done unseen whole asks passed
   end-published published = end-left (record x { published = published }) k.head at (poster-published n x at h.poster published) refl refl
@@ -112,10 +112,10 @@ module _ (n : ℕ) (x : TxDriven) (k : Knowing) (at : DriverPlaces) (seen done u
   end-passed passed' by = end-with x k.head at passed' h.poster refl refl by
 
 -- C1, C4, C5
-pub end-shake : (d new : DriverSide) (at : DriverPlaces) (seen done unseen : ℕ) (whole : Bool) (asks : List Bool) (passed : ℕ) (step : HandshakeStep) (w : ℕ) → new ≡ driver_grown d (shake_event step w) → MayShake step (driver_state d) → IsDriverEnd d at seen done unseen whole asks passed
-    → IsDriverEnd new (record at { state = shaken step at.state w }) seen done unseen whole asks passed
-end-shake d new at seen done unseen whole asks passed step w is may h = end-as d new (shake_event step w) (record (driver_record d) { state = shaken step (driver_state d) w }) (known_of d) (record at { state = shaken step at.state w }) seen done unseen whole asks passed is (shaken-record d step w) (shaken-known d step w)
-    (end-shaken (driver_size d) (driver_record d) (known_of d) at seen done unseen whole asks passed h step w may)
+pub end-control_step : (d new : DriverSide) (at : DriverPlaces) (seen done unseen : ℕ) (whole : Bool) (asks : List Bool) (passed : ℕ) (step : HandshakeStep) (w : ℕ) → new ≡ driver_grown d (control_event step w) → MayControlStep step (driver_state d) → IsDriverEnd d at seen done unseen whole asks passed
+    → IsDriverEnd new (record at { state = after_control_step step at.state w }) seen done unseen whole asks passed
+end-control_step d new at seen done unseen whole asks passed step w is may h = end-as d new (control_event step w) (record (driver_record d) { state = after_control_step step (driver_state d) w }) (known_of d) (record at { state = after_control_step step at.state w }) seen done unseen whole asks passed is (control_stepped-record d step w) (control_stepped-known d step w)
+    (end-control_stepped (driver_size d) (driver_record d) (known_of d) at seen done unseen whole asks passed h step w may)
 
 -- an epoch in which nothing is done
 pub end-anew : (n published : ℕ) (asks : List Bool) → IsRingLength n → length asks ≡ n → IsEndOf n (record { posted = []; published = published; reaped = []; reclaimed = 0; state = New }) unknown (anew n) 0 0 0 true asks 0

@@ -18,7 +18,7 @@ use Rattle.ring_model.specs.shared.Frames.{Bytes, unfinished, ends_frame}
 use Rattle.ring_model.specs.shared.Handshakes.{is_open, is_new, is_on, is_stopped, is_cleared, is_serving}
 use Rattle.ring_model.specs.shared.Queue.{posted_count, completed_count, returned_count, next_head}
 use Rattle.ring_laws.specs.States.{open_unanswered, stopped_answered, answered_closed, stopped_full}
-use Rattle.ring_laws.specs.Queues.{shook, held_below, returned_completed, answered_has_ended, answered_unheld}
+use Rattle.ring_laws.specs.Queues.{control_fits_of, held_below, returned_completed, answered_has_ended, answered_unheld}
 use Rattle.ring_model.specs.kept.Transmit.{IsTxKept}
 use Rattle.ring_laws.specs.Frames.{may_follow_next}
 use Rattle.ring_laws.specs.Rings.{tx_lawful}
@@ -31,7 +31,7 @@ use Rattle.shared_ring.proofs.Items.{fetch_laid_out}
 use Rattle.shared_ring.specs.Tables.{words_of}
 use Rattle.shared_ring.proofs.Placing.{left-laid_out}
 use Rattle.shared_ring.proofs.Laying.{home-full, unheld_item}
-use Rattle.shared_ring.proofs.Shaking.{control_value}
+use Rattle.shared_ring.proofs.ControlStepping.{control_value}
 use Rattle.tx_ring.specs.Form as form
 use Rattle.tx_ring.specs.Form.{AreOf}
 use Rattle.tx_ring.specs.Records.{Posting, TxDriven, TxControlled, DriverStep, ControllerStep, driving, controlling, posting_of}
@@ -81,7 +81,7 @@ module _ (n : ℕ) (mode : Completion) (q : TxRing Bytes) (ds : List DriverStep)
 
   control-value : slice_index words (n + 2) ≤ 3
   control-value = let m = l.laid_out in let r = m.registers in let e = r.control in
-      let v = control_value q.handshake.driver q.handshake.controller q.handshake.control q.handshake.seen (shook n ends_posting q.queue k.queue) in omega arith
+      let v = control_value q.handshake.driver q.handshake.controller q.handshake.control q.handshake.seen (control_fits_of n ends_posting q.queue k.queue) in omega arith
 
   -- the buffer of the oldest item that is out is at home, where the controller does not hold it
   pub home-out : (p : ℕ) → p ≡ returned_count q.queue % n → returned_count q.queue < posted_count q.queue → (x : Posting) → (q.held ≡ true → ¬ (returned_count q.queue ≡ completed_count q.queue)) → slice_get q.ledger.posted (returned_count q.queue) ≡ Some x

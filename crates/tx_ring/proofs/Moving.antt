@@ -24,8 +24,8 @@ use Rattle.ring_model.specs.kept.Transmit.{IsTxKept}
 use Rattle.ring_laws.specs.Rings.{seen_sent}
 use Rattle.ring_laws.specs.Frames.{AllMayFollow-nil, AllMayFollow-snoc}
 use Rattle.ring_laws.specs.Lists.{slice_get-front}
-use Rattle.ring_laws.specs.States.{live_unanswered, tailed_emptied, emptied_answered, shakes-enable}
-use Rattle.ring_laws.specs.Queues.{held_below, answered_has_ended, answered_idle, shook, returned_completed}
+use Rattle.ring_laws.specs.States.{live_unanswered, tailed_emptied, emptied_answered, control_steps-enable}
+use Rattle.ring_laws.specs.Queues.{held_below, answered_has_ended, answered_idle, control_fits_of, returned_completed}
 use Rattle.ring_model.proofs.shared.Stepping.{kept-by}
 use Rattle.shared_ring.specs.declared.events.DriverEvent.TheVariants as driver
 use Rattle.shared_ring.specs.LaidOut.{driven, is_early, IsControlled, IsLaidOutIn}
@@ -40,7 +40,7 @@ use Rattle.tx_ring.proofs.Learning.{learnt-step, learnt-head, learnt-report, lea
 use Rattle.tx_ring.proofs.Placing.{keeps_it, big, goes_on, drove, knows_is, unreclaimed, untold, laid_out-beyond, reports-else, head-within, controlled-else, Leaves, driver-goes, control_is, fetched-snoc}
 use Rattle.shared_ring.specs.declared.events.ControllerEvent.TheVariants as controller
 use Rattle.shared_ring.proofs.Laying.{set-same}
-use Rattle.shared_ring.proofs.Shaking.{early_enabling}
+use Rattle.shared_ring.proofs.ControlStepping.{early_enabling}
 use Rattle.tx_ring.specs.declared.events.TxControllerOwn.TheVariants.{Sent}
 use Rattle.descriptor.specs.Transmit.{rs_of}
 
@@ -384,12 +384,12 @@ module _ (n : ℕ) (mode : Completion) (q : TxRing Bytes) (ds : List DriverStep)
 
   pub enable-laid_out : q.handshake.seen ≡ 1 → is_serving q.handshake.controller ≡ false → IsLaidOutAs n mode enabled ds (cs ++ controller.Enabled ∷ []) (slice_set words (n + 2) 2) homes
   enable-laid_out seen idle = let h = q.handshake in let m = l.laid_out in let can : can_enable h ≡ true = and_from _ _ (eq-eqb h.seen 1 seen) (ap not idle) in let may = or_left (can_enable h) (can_disable h && tx_settled q) can in
-      let opened = shakes-enable h.driver h.controller h.control h.seen seen (shook n ends_posting q.queue k.queue) in record {
+      let opened = control_steps-enable h.driver h.controller h.control h.seen seen (control_fits_of n ends_posting q.queue k.queue) in record {
         reachable = subst (λ (r : TxRing Bytes). IsTxReachable Bytes n r) (enabled-is can) (goes_on n mode q ds cs words homes pos l (tx.Control Answer) may);
         completion = l.completion;
         driver = l.driver;
         controller = control_is n mode q ds cs words homes pos l enabled controller.Enabled
-            (ctl-enable (word_of_item q) buffer_of_item ends_posting n q.queue k.queue q.owed c l.controller idle opened.1 (m.cleared (early_enabling h.driver h.controller h.control h.seen seen (shook n ends_posting q.queue k.queue) opened.1) idle));
+            (ctl-enable (word_of_item q) buffer_of_item ends_posting n q.queue k.queue q.owed c l.controller idle opened.1 (m.cleared (early_enabling h.driver h.controller h.control h.seen seen (control_fits_of n ends_posting q.queue k.queue) opened.1) idle));
         laid_out = laid_out-enable (word_of_item q) buffer_of_item ends_posting n (words_of n mode) q.queue k.queue 0 words homes l.laid_out wide;
         reports = reports-else n mode q.reported words (n + 2) 2 (λ e. omega arith) l.reports;
         fetched = fetched-on controller.Enabled refl;

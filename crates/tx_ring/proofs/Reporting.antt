@@ -22,7 +22,7 @@ use Rattle.ring_model.specs.kept.Writes.{Writes}
 use Rattle.ring_laws.specs.Places.{each_item-set, each_item-same, slice_index-writes}
 use Rattle.ring_laws.specs.Schedules.{reached-opening}
 use Rattle.ring_laws.specs.States.{serving_unanswered}
-use Rattle.ring_laws.specs.Queues.{shook}
+use Rattle.ring_laws.specs.Queues.{control_fits_of}
 use Rattle.shared_ring.specs.declared.events.ControllerEvent.TheVariants as controller
 use Rattle.shared_ring.specs.LaidOut.{IsLaidOutIn}
 use Rattle.shared_ring.proofs.Laying.{registers-stay, at_zero}
@@ -72,7 +72,7 @@ module _ (n : ℕ) (mode : Completion) (q : TxRing Bytes) (ds : List DriverStep)
   counts : (returned_count q.queue ≤ last) × (last + 1 ≡ completed_count q.queue) × (last < posted_count q.queue)
   unfolding last
   counts = let r = k.reports in let o = k.queue.order in let a = r.owed_last owed in let b = r.reaped_seen in let c = r.seen_reported in let d = o.completed_posted in
-      let h = q.handshake in let un = unreclaimed n mode q ds cs words homes pos l (serving_unanswered h.driver h.controller h.control h.seen serving (shook n ends_posting q.queue k.queue)) in (omega arith, omega arith, omega arith)
+      let h = q.handshake in let un = unreclaimed n mode q ds cs words homes pos l (serving_unanswered h.driver h.controller h.control h.seen serving (control_fits_of n ends_posting q.queue k.queue)) in (omega arith, omega arith, omega arith)
 
   posted-as : (j : ℕ) → j < completed_count q.queue → slice_get q.ledger.posted j ≡ slice_get q.ledger.completed j
   posted-as j h = ap (λ (xs : List Posting). slice_get xs j) (sym k.sent.1) ∙ slice_get-front q.ledger.completed k.sent.0 j h

@@ -5,7 +5,7 @@ use Rattle.shared_ring.specs.Ends as ends
 use Rattle.tx_ring.specs.Form.{tx}
 use Rattle.tx_ring.specs.Records as records
 use Rattle.tx_ring.specs.Records.{driving, knowing, fetched_word}
-pub use Rattle.shared_ring.specs.Ends.{driver_size, driver_record, posted, published, reclaimed, returned, driver_state, known_of, fill_place, next_place, driver_grown, controller_size, controller_record, held, controller_state, is_between, seen, head_stored, serve_place, controller_grown, reaped as cleaned, completed as sent, known_ahead as known_ready, is_barred as is_owed}
+pub use Rattle.shared_ring.specs.Ends.{driver_size, driver_record, posted, published, reclaimed, returned, driver_state, known_of, fill_place, next_place, driver_grown, controller_size, controller_record, held, controller_state, is_at_frame_end, seen, head_stored, serve_place, controller_grown, reaped as cleaned, completed as sent, known_ahead as known_ready, is_barred as is_owed}
 
 abbrev pub DriverSide : Type 0
 DriverSide = ends.DriverSide tx

@@ -98,7 +98,7 @@ impl TxControllerEnd {
     pub fn ready(&self) -> u32
         ensures { result ≡ known_ready self.now }
     {
-        self.at.ahead as u32
+        self.at.available as u32
     }
 
     /// Gives the fetched buffer back into its slot, as sent, and stores the head (TDH): the place after it. If its
@@ -114,9 +114,9 @@ impl TxControllerEnd {
         steps::send(&mut self.seat, &ring.0, self.at.serve, head, buf);
         self.last = self.at.serve;
         self.at.serve = head;
-        self.at.ahead -= 1;
+        self.at.available -= 1;
         self.at.holding = false;
-        self.at.between = self.ends;
+        self.at.at_frame_end = self.ends;
         self.owed = self.asks;
     }
 
@@ -158,7 +158,7 @@ impl ControllerEnd<TxDriverOwn, TxControllerOwn, TxRule> for TxControllerEnd {
 
     #[inline]
     fn is_settled(&self) -> bool {
-        self.at.state.is_serving() && !self.at.holding && self.at.between && !self.owed
+        self.at.state.is_serving() && !self.at.holding && self.at.at_frame_end && !self.owed
     }
 
     #[inline]

@@ -257,7 +257,7 @@ impl DriverEnd<TxDriverOwn, TxControllerOwn, TxRule> for TxDriverEnd {
     }
 
     #[inline]
-    fn shake(&mut self, ring: &TxRing, step: HandshakeStep) -> Control {
-        self.seat.shake(&ring.0, step, &mut self.at.state)
+    fn control_step(&mut self, ring: &TxRing, step: HandshakeStep) -> Control {
+        self.seat.control_step(&ring.0, step, &mut self.at.state)
     }
 }

@@ -1,6 +1,7 @@
-//! A transmit ring of the 82599 that a driver and a controller share without a lock, each in its own thread. Depends on
-//! `shared_ring`, `ring_model`, `buffer_pool`, `descriptor` and `limits`, and on `atomic_table` in contracts.
-//! Guarantees for every interleaving that the sent segments are a prefix of the posted ones, byte for byte, each once
+//! A transmit ring of the 82599 that a driver and a controller share without a lock, each in its own thread.
+//! Depends on `shared_ring`, `ring_model`, `ring_laws`, `buffer_pool`, `descriptor` and `limits`, and on `atomic_table`
+//! in contracts.
+//! Guarantees that for every interleaving the sent segments are a prefix of the posted ones, byte for byte, each once
 //! and in order.
 //!
 //! A ring has a word for each descriptor, a head, a tail and a control word, and a slot for a buffer at each place.

@@ -1,6 +1,6 @@
 //! Wire scripts: the text format of frames that arrive and of frames that are sent.
 //! Depends on `text_lines`, `limits`, `refusals` and `hex`.
-//! Every text has exactly one meaning, and [`parse`] reads printed frames back as the same frames.
+//! Guarantees that every text has exactly one meaning, and that [`parse`] reads printed frames back as the same frames.
 //!
 //! A script consists of lines that end with LF; the last may lack it, and CR is a byte like any other. An empty line
 //! and one that begins with `#` are ignored. Each other line is one frame, in fields separated by single spaces:

@@ -5,9 +5,9 @@ use crate::tests::told::comes_to_text;
 use std::alloc::Global;
 
 /// A ring and a format.
-type Form = (&'static str, &'static str);
+type NamedForm = (&'static str, &'static str);
 
-const FORMS: &[Form] = &[
+const FORMS: &[NamedForm] = &[
     ("rx", "read"),
     ("rx", "back"),
     ("tx", "read"),
@@ -15,7 +15,7 @@ const FORMS: &[Form] = &[
 ];
 
 /// Each form, the bytes of a descriptor, and its line.
-const LINES: &[(Form, &str, &str)] = &[
+const LINES: &[(NamedForm, &str, &str)] = &[
     // 60 bytes that end their frame, written back
     (
         ("rx", "back"),
@@ -42,7 +42,7 @@ const LINES: &[(Form, &str, &str)] = &[
 ];
 
 /// Each form, bytes that do not have it, and why.
-const REFUSED: &[(Form, &str, &str)] = &[
+const EXIT_REFUSED: &[(NamedForm, &str, &str)] = &[
     // DTYP 2, which is a context descriptor
     (
         ("tx", "read"),
@@ -105,7 +105,7 @@ fn descriptors_are_decoded(rt: HostRuntime) {
 
 #[test]
 fn bytes_of_another_form_are_refused(rt: HostRuntime) {
-    for (form, digits, faults) in REFUSED {
+    for (form, digits, faults) in EXIT_REFUSED {
         decodes(&rt, rt.alloc(), *form, digits, ("", faults));
     }
 }

@@ -1,6 +1,6 @@
 //! Runs on failing streams.
 
-use crate::tests::runs::{Host, run_into};
+use crate::tests::runs::{Host, Streams, run_on};
 use crate::tests::streams::{Input, Output};
 use crate::tests::wanted::{holds, same};
 use std::alloc::Global;
@@ -13,8 +13,11 @@ pub fn is_refused<R: Host>(
     (input, output): (Input<'_>, Output),
     line: &str,
 ) -> Vec<u8> {
-    let outputs = (output, Output::new(alloc));
-    let told = run_into(rt, alloc, words, input, outputs).expect(rt, "a run");
+    let streams = Streams {
+        output,
+        ..Streams::of(alloc, input)
+    };
+    let told = run_on(rt, alloc, words, streams);
     same(rt, (words, told.faults(), told.status), (words, line, 1));
     told.output
 }

@@ -4,7 +4,6 @@
 //! `crate::tests::failing` check them.
 
 mod capture_streams;
-mod capture_words;
 mod captured;
 mod crowd;
 mod file_tests;

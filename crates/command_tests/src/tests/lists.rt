@@ -9,7 +9,7 @@ use commands::{NOTES, QueuePlan};
 use ring_machine::Completion;
 
 /// The queues on which lists are replayed.
-const QUEUES: QueuePlan = QueuePlan {
+pub const QUEUES: QueuePlan = QueuePlan {
     pairs: 1,
     ring: 8,
     enabled: true,

@@ -5,7 +5,7 @@ use crate::tests::told::{comes_to_text, times};
 use std::alloc::{AllocError, Global};
 
 /// Digits that `once` refuses, and why.
-const REFUSED: &[(&str, &str)] = &[
+const EXIT_REFUSED: &[(&str, &str)] = &[
     ("000102030405060708090a0b0c", "refused 41 frame length\n"),
     ("", "refused 41 frame length\n"),
     ("0", "refused 81 hex\n"),
@@ -50,7 +50,7 @@ fn frames_come_out_in_lower_case(rt: HostRuntime) {
 
 #[test]
 fn digits_of_no_frame_are_refused(rt: HostRuntime) {
-    for (digits, faults) in REFUSED {
+    for (digits, faults) in EXIT_REFUSED {
         passes(&rt, rt.alloc(), digits, ("", faults));
     }
 }

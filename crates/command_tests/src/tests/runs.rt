@@ -22,14 +22,14 @@ pub fn text_of(bytes: &[u8]) -> &str {
 
 /// The result of a run: its status, and the bytes written to the output, the faults and the screen.
 #[derive(Drop)]
-pub struct Told {
+pub struct RunResult {
     pub status: u8,
     pub output: Vec<u8>,
     faults: Vec<u8>,
     shown: Vec<u8>,
 }
 
-impl Told {
+impl RunResult {
     /// The output as a text.
     pub fn text(&self) -> &str {
         text_of(self.output.as_slice())
@@ -44,97 +44,83 @@ impl Told {
     }
 }
 
-/// The result of a run on these words, this input, which may be a terminal, these outputs and this screen.
-fn run_from<R: Host>(
-    rt: &R,
-    alloc: Global,
-    words: &[&str],
-    (mut input, is_terminal): (Input<'_>, bool),
-    (mut output, mut faults): (Output, Output),
-    mut screen: Screen,
-) -> Result<Told, AllocError> {
-    let mut given = Vec::new(alloc);
-    for word in words {
-        given.push(String::from_str(alloc, word)?)?;
+/// The streams of a run.
+#[derive(Drop)]
+pub struct Streams<'a> {
+    pub input: Input<'a>,
+    /// Whether the input is a terminal.
+    pub is_terminal: bool,
+    pub output: Output,
+    pub faults: Output,
+    pub screen: Screen,
+}
+
+impl<'a> Streams<'a> {
+    /// This input, outputs that take all bytes, and a screen. None is a terminal.
+    pub fn of(alloc: Global, input: Input<'a>) -> Streams<'a> {
+        Streams {
+            input,
+            is_terminal: false,
+            output: Output::new(alloc),
+            faults: Output::new(alloc),
+            screen: Screen::new(alloc, false),
+        }
     }
-    let words = given.as_slice();
+}
+
+/// Copies of these words.
+fn copied(alloc: Global, words: &[&str]) -> Result<Vec<String>, AllocError> {
+    let mut copies = Vec::new(alloc);
+    for word in words {
+        copies.push(String::from_str(alloc, word)?)?;
+    }
+    Ok(copies)
+}
+
+/// The result of a run on these words and streams.
+pub fn run_on<R: Host>(rt: &R, alloc: Global, words: &[&str], streams: Streams<'_>) -> RunResult {
+    let given = copied(alloc, words).expect(rt, "memory");
+    let Streams {
+        mut input,
+        is_terminal,
+        mut output,
+        mut faults,
+        mut screen,
+    } = streams;
     let status = run(
         rt,
         alloc,
-        words,
+        given.as_slice(),
         &mut input,
         is_terminal,
         &mut output,
         &mut faults,
         &mut screen,
     );
-    Ok(Told {
+    RunResult {
         status,
         output: output.taken,
         faults: faults.taken,
         shown: screen.shown,
-    })
-}
-
-/// The result of a run on these words, this input and these outputs, without a terminal.
-pub fn run_into<R: Host>(
-    rt: &R,
-    alloc: Global,
-    words: &[&str],
-    input: Input<'_>,
-    outputs: (Output, Output),
-) -> Result<Told, AllocError> {
-    let screen = Screen::new(alloc, false);
-    run_from(rt, alloc, words, (input, false), outputs, screen)
-}
-
-/// The result of a run on these words, this input, which is no terminal, and this screen.
-pub fn outcome_on<R: Host>(
-    rt: &R,
-    alloc: Global,
-    words: &[&str],
-    input: &[u8],
-    screen: Screen,
-) -> Result<Told, AllocError> {
-    let outputs = (Output::new(alloc), Output::new(alloc));
-    run_from(rt, alloc, words, (Input::of(input), false), outputs, screen)
-}
-
-/// The result of a run on these words and this input, which is a terminal. The screen is none.
-pub fn typed_by<R: Host>(
-    rt: &R,
-    alloc: Global,
-    words: &[&str],
-    input: Input<'_>,
-) -> Result<Told, AllocError> {
-    let outputs = (Output::new(alloc), Output::new(alloc));
-    let screen = Screen::new(alloc, false);
-    run_from(rt, alloc, words, (input, true), outputs, screen)
+    }
 }
 
 /// The result of a run on these words and this input, without a terminal.
-pub fn told_by<R: Host>(
-    rt: &R,
-    alloc: Global,
-    words: &[&str],
-    input: Input<'_>,
-) -> Result<Told, AllocError> {
-    run_into(
-        rt,
-        alloc,
-        words,
-        input,
-        (Output::new(alloc), Output::new(alloc)),
-    )
+pub fn told_by<R: Host>(rt: &R, alloc: Global, words: &[&str], input: Input<'_>) -> RunResult {
+    run_on(rt, alloc, words, Streams::of(alloc, input))
 }
 
-/// The same for an input with these bytes.
-pub fn outcome_of<R: Host>(
-    rt: &R,
-    alloc: Global,
-    words: &[&str],
-    input: &[u8],
-) -> Result<Told, AllocError> {
+/// The same for an input that is a terminal.
+pub fn typed_by<R: Host>(rt: &R, alloc: Global, words: &[&str], input: Input<'_>) -> RunResult {
+    let streams = Streams {
+        is_terminal: true,
+        ..Streams::of(alloc, input)
+    };
+    run_on(rt, alloc, words, streams)
+}
+
+/// The result of a run on these words and an input with these bytes, without a terminal.
+pub fn outcome_of<R: Host>(rt: &R, alloc: Global, words: &[&str], input: &[u8]) -> RunResult {
     told_by(rt, alloc, words, Input::of(input))
 }
 

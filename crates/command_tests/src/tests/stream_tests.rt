@@ -1,11 +1,11 @@
 //! Failing streams and allocations.
 
 use crate::tests::failing::{each_cut, is_refused, is_stuck};
-use crate::tests::runs::{Host, run_into};
+use crate::tests::lists::QUEUES;
+use crate::tests::runs::{Host, Streams, run_on};
 use crate::tests::streams::{Input, Output};
 use crate::tests::wanted::{holds, same};
-use commands::{NOTES, QueuePlan, Request, perform};
-use ring_machine::Completion;
+use commands::{Request, perform};
 use std::alloc::Global;
 
 const FRAME: &str = "000102030405060708090a0b0c0d";
@@ -61,8 +61,11 @@ fn an_output_that_fails_is_refused(rt: HostRuntime) {
 
 /// With room for `room` bytes of faults, the status is this.
 fn has_status<R: Host>(rt: &R, alloc: Global, words: &[&str], room: usize, status: u8) {
-    let outputs = (Output::new(alloc), Output::narrow(alloc, room));
-    let told = run_into(rt, alloc, words, Input::of(b""), outputs).expect(rt, "a run");
+    let streams = Streams {
+        faults: Output::narrow(alloc, room),
+        ..Streams::of(alloc, Input::of(b""))
+    };
+    let told = run_on(rt, alloc, words, streams);
     same(rt, (words, room, told.status), (words, room, status));
 }
 
@@ -84,21 +87,13 @@ fn an_input_that_fails_in_mid_stream_is_refused(rt: HostRuntime) {
 
 #[test]
 fn want_of_memory(rt: HostRuntime) {
-    let plan = QueuePlan {
-        pairs: 1,
-        ring: 8,
-        enabled: true,
-        completion: Completion::Status,
-        lists: false,
-        shown: NOTES,
-    };
     let mut input = Input::of(b"r0 A1 5\nt0 B2\n");
     let mut output = Output::narrow(rt.alloc(), 100);
     let mut why = String::new(rt.alloc());
     match perform(
         &rt,
         rt.alloc(),
-        Request::Replay { plan },
+        Request::Replay { plan: QUEUES },
         &mut input,
         &mut output,
         &mut why,

@@ -1,20 +1,18 @@
 //! Checks runs of the program on words and an input.
 
-use crate::tests::runs::{Host, Told, is_page, outcome_of, text_of, told_by};
+use crate::tests::runs::{Host, RunResult, is_page, outcome_of, text_of, told_by};
 use crate::tests::streams::Input;
 use crate::tests::wanted::same;
-use commands::{REFUSED, Refusal, refuse};
+use commands::{EXIT_REFUSED, Refusal, refuse};
 use std::alloc::{AllocError, Global};
 use std::process::Abort;
 
-/// A run and its expected output, to the byte.
-#[derive(Clone, Copy)]
-pub struct Row {
-    pub words: &'static [&'static str],
-    pub input: &'static str,
-    pub output: &'static str,
-    pub faults: &'static str,
-}
+/// The words and the input of a run, and its expected output, to the byte, or its faults.
+pub type Row = (
+    &'static [&'static str],
+    &'static str,
+    Result<&'static str, &'static str>,
+);
 
 /// A run on these words and this input has this output and these faults, and shows nothing. Its status is 1 if there
 /// are faults.
@@ -25,7 +23,7 @@ pub fn comes_to<R: Host>(
     input: &[u8],
     (output, faults): (&[u8], &str),
 ) {
-    let told = outcome_of(rt, alloc, words, input).expect(rt, "a run");
+    let told = outcome_of(rt, alloc, words, input);
     is_told(rt, words, &told, (output, faults, ""));
 }
 
@@ -33,7 +31,7 @@ pub fn comes_to<R: Host>(
 pub fn is_told<R: Host>(
     rt: &R,
     words: &[&str],
-    told: &Told,
+    told: &RunResult,
     (output, faults, shown): (&[u8], &str, &str),
 ) {
     let status = u8::from(!faults.is_empty());
@@ -62,11 +60,28 @@ pub fn comes_to_text<R: Host>(
     )
 }
 
-/// Each row has its output and its faults.
+/// Each row has its output, or its faults.
 pub fn each_comes_to<R: Host>(rt: &R, alloc: Global, rows: &[Row]) {
-    for row in rows {
-        comes_to_text(rt, alloc, row.words, row.input, (row.output, row.faults));
+    for (words, input, told) in rows {
+        let wanted = match *told {
+            Ok(output) => (output, ""),
+            Err(faults) => ("", faults),
+        };
+        comes_to_text(rt, alloc, words, input, wanted);
     }
+}
+
+/// With these words after the first ones, a run without an input has this output and these faults.
+pub fn goes_on<R: Host>(
+    rt: &R,
+    alloc: Global,
+    (begin, more): (&[&'static str], &[&str]),
+    wanted: (&str, &str),
+) {
+    let mut words = Vec::new(alloc);
+    words.extend_from_slice(begin).expect(rt, "memory");
+    words.extend_from_slice(more).expect(rt, "memory");
+    comes_to_text(rt, alloc, words.as_slice(), "", wanted)
 }
 
 /// A page of text.
@@ -80,8 +95,8 @@ pub enum Page {
 
 /// A run on these words prints this page with this text, and nothing else. It does not read its input, which is neither
 /// a move nor a valid script, and fails.
-fn has_page<R: Host>(rt: &R, alloc: Global, page: Page, words: &[&str], text: &str) {
-    let told = told_by(rt, alloc, words, Input::broken(b"2 0 00\n")).expect(rt, "a run");
+pub fn has_page<R: Host>(rt: &R, alloc: Global, page: Page, words: &[&str], text: &str) {
+    let told = told_by(rt, alloc, words, Input::broken(b"2 0 00\n"));
     let (status, begins, told_text, other) = match page {
         Page::Help => (0, "", told.text(), told.faults()),
         Page::Mistake => (2, "error: ", told.faults(), told.text()),
@@ -110,7 +125,11 @@ pub fn each_has_page<R: Host>(rt: &R, alloc: Global, page: Page, rows: &[(&[&str
 pub fn has_line<R: Abort>(rt: &R, alloc: Global, refusal: Refusal, line: &str) {
     let mut faults = Vec::new(alloc);
     let status = refuse(&mut faults, refusal);
-    same(rt, (status, faults.as_slice()), (REFUSED, line.as_bytes()));
+    same(
+        rt,
+        (status, faults.as_slice()),
+        (EXIT_REFUSED, line.as_bytes()),
+    );
 }
 
 /// Joins these texts.

@@ -1,6 +1,7 @@
 //! Words that ask for help, and mistaken words.
 
-use crate::tests::told::{Page, Row, each_comes_to, each_has_page, has_line};
+use crate::tests::runs::Host;
+use crate::tests::told::{Page, Row, each_comes_to, each_has_page, has_line, has_page};
 use buffer_pool::PoolError;
 use commands::Refusal::{
     self, Descriptor, FileNotRead, FileNotWritten, FrameLength, Hex, Input, Machine, Output, Ring,
@@ -9,6 +10,7 @@ use commands::Refusal::{
 use descriptor::DescError;
 use ring_machine::MachineError;
 use rx_ring::RingError;
+use std::alloc::Global;
 
 const FRAME: &str = "000102030405060708090a0b0c0d";
 
@@ -55,37 +57,55 @@ const NOT_ONE_FORM: &str = "--page cannot be combined with --json, --registers o
 /// The error for `--page` together with the forms of `schedules`.
 const NOT_IN_PAGE: &str = "--page cannot be combined with --expect, --json, --registers or --cover";
 
-/// Words that ask for help, and an example that it must contain.
+/// Commands, and an example in their help.
+const EXAMPLES: &[(&str, &str)] = &[
+    ("once", ONCE),
+    ("decode", DECODE),
+    ("replay", REPLAY),
+    ("schedules", SCHEDULES),
+];
+
+/// The commands, each of which can explain a refusal.
+const COMMANDS: &[&str] = &[
+    "once",
+    "decode",
+    "replay",
+    "forward",
+    "from-capture",
+    "to-capture",
+    "schedules",
+];
+
+/// Words that ask for help, and a text that it must contain.
 const HELPED: &[(&[&str], &str)] = &[
-    (&["--help"], ONCE),
-    (&["--help"], DECODE),
-    (&["--help"], REPLAY),
     (&["-h"], ONCE),
     (&["help"], ONCE),
-    (&["once", "--help"], ONCE),
-    (&["once", "-h"], ONCE),
-    (&["help", "once"], ONCE),
-    (&["decode", "--help"], DECODE),
-    (&["decode", "-h"], DECODE),
-    (&["help", "decode"], DECODE),
-    (&["replay", "--help"], REPLAY),
-    (&["replay", "-h"], REPLAY),
-    (&["help", "replay"], REPLAY),
-    (&["--help"], SCHEDULES),
-    (&["schedules", "--help"], SCHEDULES),
-    (&["schedules", "-h"], SCHEDULES),
-    (&["help", "schedules"], SCHEDULES),
     (&["--help"], COVER),
+    (&["--help"], "from-capture"),
+    (&["--help"], "to-capture"),
     (&["schedules", "--help"], COVER),
     (&["schedules", "--help"], RECOMMENDED),
     (&["replay", "--help"], "--lists"),
-    (&["once", "--help"], EXPLAINED),
-    (&["decode", "--help"], EXPLAINED),
-    (&["replay", "--help"], EXPLAINED),
-    (&["forward", "--help"], EXPLAINED),
-    (&["from-capture", "--help"], EXPLAINED),
-    (&["to-capture", "--help"], EXPLAINED),
-    (&["schedules", "--help"], EXPLAINED),
+    (&["from-capture", "-h"], "<PORT> <QUEUE>"),
+    (
+        &["from-capture", "--help"],
+        "poll82599 from-capture 0 3 < x.pcap | poll82599 forward --pairs 4\n",
+    ),
+    (
+        &["to-capture", "--help"],
+        "echo '0 0 fill 60 05' | poll82599 forward | poll82599 to-capture 1 | tcpdump -r -\n",
+    ),
+];
+
+/// A list with too many refused moves.
+const MANY_REFUSED: &[&str] = &[
+    "schedules",
+    "--seed",
+    "1",
+    "--moves",
+    "1",
+    "--refused",
+    "101",
 ];
 
 /// Mistaken words, and a text that the error must contain.
@@ -123,18 +143,7 @@ const WRONG: &[(&[&str], &str)] = &[
     (&["schedules", "--seed", "1"], "--moves"),
     (&["schedules", "--moves", "1"], "--seed"),
     (&["schedules", "--seed", "one", "--moves", "1"], "one"),
-    (
-        &[
-            "schedules",
-            "--seed",
-            "1",
-            "--moves",
-            "1",
-            "--refused",
-            "101",
-        ],
-        "101",
-    ),
+    (MANY_REFUSED, "101"),
     (&["schedules", "--cover", "--seed", "1"], NOT_DRAWN),
     (&["schedules", "--moves", "4", "--cover"], NOT_DRAWN),
     (&["schedules", "--cover", "--count", "1"], NOT_DRAWN),
@@ -214,10 +223,19 @@ const WRONG: &[(&[&str], &str)] = &[
     ),
     (&["replay", "--lists", "--lists"], "--lists"),
     (&["replay", "--explain", "--explain"], "--explain"),
+    (&["from-capture"], "PORT"),
+    (&["from-capture", "0"], "QUEUE"),
+    (&["from-capture", "2", "0"], "0..=1"),
+    (&["from-capture", "0", "8"], "0..=7"),
+    (&["from-capture", "0", "0", "x.pcap"], "x.pcap"),
+    (&["from-capture", "zero", "0"], "zero"),
+    (&["to-capture"], "PORT"),
+    (&["to-capture", "2"], "0..=1"),
+    (&["to-capture", "0", "0"], "'0'"),
 ];
 
 /// Mistaken words of a command, and the end of the error: its usage, after the range of a number.
-const MISUSED: &[(&[&str], &str)] = &[
+const USAGE_ERRORS: &[(&[&str], &str)] = &[
     (
         &["forward", "--ring", "99999999999"],
         "invalid value '99999999999' for '--ring <N>': Descriptors per ring, a power of two from 8 to 4,096\n\nUsage: poll82599 forward [OPTIONS]\n",
@@ -227,16 +245,10 @@ const MISUSED: &[(&[&str], &str)] = &[
         "invalid value 'eight' for '--ring <N>': Descriptors per ring, a power of two from 8 to 4,096\n\nUsage: poll82599 replay [OPTIONS]\n",
     ),
     (
-        &[
-            "schedules",
-            "--seed",
-            "1",
-            "--moves",
-            "1",
-            "--refused",
-            "101",
-        ],
-        "invalid value '101' for '--refused <N>': Of a hundred moves, at most this many are not enabled, 0 to 100\n\nUsage: poll82599 schedules [OPTIONS]\n",
+        MANY_REFUSED,
+        "invalid value '101' for '--refused <N>': Of a hundred moves, at most this many are not enabled, 0 to 100\n\
+         \n\
+         Usage: poll82599 schedules [OPTIONS]\n",
     ),
     (
         &["from-capture", "2", "0"],
@@ -298,24 +310,42 @@ const LINES: &[(Refusal, &str)] = &[
     (SameFile, "refused 87 same file\n"),
 ];
 
+/// However the help of a command is asked for, and in that of the program, it has this example.
+fn has_example<R: Host>(rt: &R, alloc: Global, command: &str, example: &str) {
+    has_page(rt, alloc, Page::Help, &[command, "--help"], example);
+    has_page(rt, alloc, Page::Help, &[command, "-h"], example);
+    has_page(rt, alloc, Page::Help, &["help", command], example);
+    has_page(rt, alloc, Page::Help, &["--help"], example);
+}
+
 #[test]
-fn help_goes_to_the_output_with_an_example(rt: HostRuntime) {
+fn the_help_of_a_command_has_its_example(rt: HostRuntime) {
+    for (command, example) in EXAMPLES {
+        has_example(&rt, rt.alloc(), command, example);
+    }
+}
+
+#[test]
+fn the_help_of_each_command_says_how_to_explain_a_refusal(rt: HostRuntime) {
+    for command in COMMANDS {
+        has_page(
+            &rt,
+            rt.alloc(),
+            Page::Help,
+            &[*command, "--help"],
+            EXPLAINED,
+        );
+    }
+}
+
+#[test]
+fn help_goes_to_the_output(rt: HostRuntime) {
     each_has_page(&rt, rt.alloc(), Page::Help, HELPED)
 }
 
 const VERSION: &[Row] = &[
-    Row {
-        words: &["--version"],
-        input: "",
-        output: "poll82599 0.1.0\n",
-        faults: "",
-    },
-    Row {
-        words: &["-V"],
-        input: "",
-        output: "poll82599 0.1.0\n",
-        faults: "",
-    },
+    (&["--version"], "", Ok("poll82599 0.1.0\n")),
+    (&["-V"], "", Ok("poll82599 0.1.0\n")),
 ];
 
 #[test]
@@ -330,7 +360,7 @@ fn wrong_words_are_told_with_status_2(rt: HostRuntime) {
 
 #[test]
 fn wrong_words_of_a_command_are_told_with_its_usage(rt: HostRuntime) {
-    each_has_page(&rt, rt.alloc(), Page::Mistake, MISUSED)
+    each_has_page(&rt, rt.alloc(), Page::Mistake, USAGE_ERRORS)
 }
 
 #[test]

@@ -6,7 +6,7 @@ use crate::passing::MOST_PASSED;
 use byteorder::{ByteOrder, LittleEndian};
 use descriptor::DescError;
 use limits::LEAST_FRAME;
-use requests::{Form, Refusal, Request, explain_queues};
+use requests::{DescriptorForm, Refusal, Request, explain_queues};
 use ring_machine::MachineError;
 use std::alloc::{AllocError, Global};
 
@@ -58,7 +58,7 @@ fn explain_digits(why: &mut String, digits: &str) -> Result<(), AllocError> {
 fn explain_descriptor(
     alloc: Global,
     why: &mut String,
-    form: Form,
+    form: DescriptorForm,
     digits: &str,
     error: DescError,
 ) -> Result<(), AllocError> {

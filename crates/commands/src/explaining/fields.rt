@@ -2,7 +2,7 @@
 
 use descriptor::DescError;
 use limits::{BUFFER_BYTES, LEAST_FRAME, MOST_FRAME};
-use requests::Form;
+use requests::DescriptorForm;
 use std::alloc::AllocError;
 
 /// The numbers that the profile allows in a field.
@@ -24,77 +24,80 @@ enum Rule {
 #[derive(Clone, Copy)]
 struct Field(&'static str, u32, u32, Rule);
 
+/// 0 alone.
+const ZERO: Rule = Rule::Fixed(0);
+
 /// Buffer address (82599 datasheet, 7.1.6.1 and 7.2.3.2.4): the buffer's number times 2,048.
 const ADDRESS: &[Field] = &[
-    Field("buffer address", 10, 0, Rule::Fixed(0)),
+    Field("buffer address", 10, 0, ZERO),
     Field("buffer address", 26, 11, Rule::Any),
-    Field("buffer address", 63, 27, Rule::Fixed(0)),
+    Field("buffer address", 63, 27, ZERO),
 ];
 
 /// Receive descriptor, read format (7.1.6.1).
 const RX_READ: &[Field] = &[
-    Field("DD", 0, 0, Rule::Fixed(0)),
-    Field("header buffer address", 63, 1, Rule::Fixed(0)),
+    Field("DD", 0, 0, ZERO),
+    Field("header buffer address", 63, 1, ZERO),
 ];
 
 /// Receive descriptor, write-back format (7.1.6.2), first quadword.
 const RX_BACK_FIRST: &[Field] = &[
-    Field("RSS type", 3, 0, Rule::Fixed(0)),
-    Field("packet type", 16, 4, Rule::Fixed(0)),
-    Field("RSCCNT", 20, 17, Rule::Fixed(0)),
-    Field("HDR_LEN", 30, 21, Rule::Fixed(0)),
-    Field("SPH", 31, 31, Rule::Fixed(0)),
-    Field("RSS hash", 63, 32, Rule::Fixed(0)),
+    Field("RSS type", 3, 0, ZERO),
+    Field("packet type", 16, 4, ZERO),
+    Field("RSCCNT", 20, 17, ZERO),
+    Field("HDR_LEN", 30, 21, ZERO),
+    Field("SPH", 31, 31, ZERO),
+    Field("RSS hash", 63, 32, ZERO),
 ];
 
 /// Receive descriptor, write-back format (7.1.6.2), second quadword.
 const RX_BACK_SECOND: &[Field] = &[
     Field("DD", 0, 0, Rule::Fixed(1)),
     Field("EOP", 1, 1, Rule::Any),
-    Field("FLM", 2, 2, Rule::Fixed(0)),
-    Field("VP", 3, 3, Rule::Fixed(0)),
-    Field("UDPCS", 4, 4, Rule::Fixed(0)),
-    Field("L4I", 5, 5, Rule::Fixed(0)),
-    Field("IPCS", 6, 6, Rule::Fixed(0)),
-    Field("PIF", 7, 7, Rule::Fixed(0)),
-    Field("reserved", 8, 8, Rule::Fixed(0)),
-    Field("VEXT", 9, 9, Rule::Fixed(0)),
-    Field("UDPV", 10, 10, Rule::Fixed(0)),
-    Field("LLINT", 11, 11, Rule::Fixed(0)),
-    Field("reserved", 15, 12, Rule::Fixed(0)),
-    Field("TS", 16, 16, Rule::Fixed(0)),
-    Field("SECP", 17, 17, Rule::Fixed(0)),
-    Field("LB", 18, 18, Rule::Fixed(0)),
-    Field("reserved", 19, 19, Rule::Fixed(0)),
-    Field("FDIRERR", 22, 20, Rule::Fixed(0)),
-    Field("HBO", 23, 23, Rule::Fixed(0)),
-    Field("reserved", 26, 24, Rule::Fixed(0)),
-    Field("SECERR", 28, 27, Rule::Fixed(0)),
-    Field("RXE", 29, 29, Rule::Fixed(0)),
-    Field("L4E", 30, 30, Rule::Fixed(0)),
-    Field("IPE", 31, 31, Rule::Fixed(0)),
+    Field("FLM", 2, 2, ZERO),
+    Field("VP", 3, 3, ZERO),
+    Field("UDPCS", 4, 4, ZERO),
+    Field("L4I", 5, 5, ZERO),
+    Field("IPCS", 6, 6, ZERO),
+    Field("PIF", 7, 7, ZERO),
+    Field("reserved", 8, 8, ZERO),
+    Field("VEXT", 9, 9, ZERO),
+    Field("UDPV", 10, 10, ZERO),
+    Field("LLINT", 11, 11, ZERO),
+    Field("reserved", 15, 12, ZERO),
+    Field("TS", 16, 16, ZERO),
+    Field("SECP", 17, 17, ZERO),
+    Field("LB", 18, 18, ZERO),
+    Field("reserved", 19, 19, ZERO),
+    Field("FDIRERR", 22, 20, ZERO),
+    Field("HBO", 23, 23, ZERO),
+    Field("reserved", 26, 24, ZERO),
+    Field("SECERR", 28, 27, ZERO),
+    Field("RXE", 29, 29, ZERO),
+    Field("L4E", 30, 30, ZERO),
+    Field("IPE", 31, 31, ZERO),
     Field("PKT_LEN", 47, 32, Rule::Range(1, BUFFER_BYTES as u64)),
-    Field("VLAN tag", 63, 48, Rule::Fixed(0)),
+    Field("VLAN tag", 63, 48, ZERO),
 ];
 
 /// Transmit descriptor, read format (7.2.3.2.4), second quadword.
 const TX_READ: &[Field] = &[
     Field("DTALEN", 15, 0, Rule::Range(1, BUFFER_BYTES as u64)),
-    Field("reserved", 17, 16, Rule::Fixed(0)),
-    Field("MAC", 19, 18, Rule::Fixed(0)),
+    Field("reserved", 17, 16, ZERO),
+    Field("MAC", 19, 18, ZERO),
     Field("DTYP", 23, 20, Rule::Type(3)),
     Field("EOP", 24, 24, Rule::Any),
     Field("IFCS", 25, 25, Rule::Fixed(1)),
-    Field("reserved", 26, 26, Rule::Fixed(0)),
+    Field("reserved", 26, 26, ZERO),
     Field("RS", 27, 27, Rule::BesideEop),
-    Field("reserved", 28, 28, Rule::Fixed(0)),
+    Field("reserved", 28, 28, ZERO),
     Field("DEXT", 29, 29, Rule::Type(1)),
-    Field("VLE", 30, 30, Rule::Fixed(0)),
-    Field("TSE", 31, 31, Rule::Fixed(0)),
-    Field("STA", 35, 32, Rule::Fixed(0)),
-    Field("IDX", 38, 36, Rule::Fixed(0)),
-    Field("CC", 39, 39, Rule::Fixed(0)),
-    Field("POPTS", 45, 40, Rule::Fixed(0)),
+    Field("VLE", 30, 30, ZERO),
+    Field("TSE", 31, 31, ZERO),
+    Field("STA", 35, 32, ZERO),
+    Field("IDX", 38, 36, ZERO),
+    Field("CC", 39, 39, ZERO),
+    Field("POPTS", 45, 40, ZERO),
     Field(
         "PAYLEN",
         63,
@@ -104,23 +107,23 @@ const TX_READ: &[Field] = &[
 ];
 
 /// Transmit descriptor, write-back format (7.2.3.2.4), first quadword.
-const TX_BACK_FIRST: &[Field] = &[Field("reserved", 63, 0, Rule::Fixed(0))];
+const TX_BACK_FIRST: &[Field] = &[Field("reserved", 63, 0, ZERO)];
 
 /// Transmit descriptor, write-back format (7.2.3.2.4), second quadword.
 const TX_BACK_SECOND: &[Field] = &[
-    Field("reserved", 31, 0, Rule::Fixed(0)),
+    Field("reserved", 31, 0, ZERO),
     Field("DD", 32, 32, Rule::Fixed(1)),
-    Field("STA", 35, 33, Rule::Fixed(0)),
-    Field("reserved", 63, 36, Rule::Fixed(0)),
+    Field("STA", 35, 33, ZERO),
+    Field("reserved", 63, 36, ZERO),
 ];
 
 /// The fields of a form, by quadword.
-fn fields_of(form: Form) -> (&'static [Field], &'static [Field]) {
+fn fields_of(form: DescriptorForm) -> (&'static [Field], &'static [Field]) {
     match form {
-        Form::RxRead => (ADDRESS, RX_READ),
-        Form::RxBack => (RX_BACK_FIRST, RX_BACK_SECOND),
-        Form::TxRead => (ADDRESS, TX_READ),
-        Form::TxBack => (TX_BACK_FIRST, TX_BACK_SECOND),
+        DescriptorForm::RxRead => (ADDRESS, RX_READ),
+        DescriptorForm::RxBack => (RX_BACK_FIRST, RX_BACK_SECOND),
+        DescriptorForm::TxRead => (ADDRESS, TX_READ),
+        DescriptorForm::TxBack => (TX_BACK_FIRST, TX_BACK_SECOND),
     }
 }
 
@@ -184,7 +187,7 @@ fn first_broken(fields: &[Field], quadword: u64, error: DescError) -> Option<Fie
 /// error. Writes nothing if there is none.
 pub(crate) fn explain_field(
     why: &mut String,
-    form: Form,
+    form: DescriptorForm,
     (first, second): (u64, u64),
     error: DescError,
 ) -> Result<(), AllocError> {

@@ -8,7 +8,7 @@ ghost use Rattle.wire_script.specs.Frame.{frame_of};
 ghost use Rattle.forward_io.specs.Gathering.{AreGathered, IsAdded, IsUngathered, IsUnread, with_capture};
 
 use crate::captured::files::read_file;
-use crate::captured::refused::{Place, Refused};
+use crate::captured::refused::{FileRefusal, RefusalSubject};
 use crate::explaining::explain_capture;
 use capture::{CaptureError, CaptureRecord, ReadOptions, Skipped, read_with};
 use limits::MOST_SCRIPT_FRAMES;
@@ -19,7 +19,7 @@ use wire_script::WireFrame;
 
 /// Frames of captures, and how many records were left out of each.
 #[derive(Drop)]
-pub struct Gathered {
+pub struct CapturedScript {
     /// The frames, capture by capture.
     pub frames: Vec<WireFrame>,
     /// For each capture, how many records were left out.
@@ -108,7 +108,7 @@ pub fn gather<R: Files>(
     reading: ReadOptions,
     sources: &[Source<'_>],
     why: &mut String,
-) -> Result<Gathered, Refused>
+) -> Result<CapturedScript, FileRefusal>
     ensures frames { IfOk result (λ g. AreGathered reading sources.now g.frames.items g.skipped.items) }
     ensures room { IfOk result (λ g. length g.frames.items ≤ MOST_SCRIPT_FRAMES) }
     ensures refused { IfErr result (λ e. IsUngathered reading sources.now e) }
@@ -120,12 +120,12 @@ pub fn gather<R: Files>(
         let added = add_file(rt, alloc, reading, &mut frames, &mut skipped, source, why);
         if let Err(refusal) = added {
             drop(frames);
-            let place = Place::Source(at);
-            return Err(Refused { place, refusal });
+            let place = RefusalSubject::Source(at);
+            return Err(FileRefusal { place, refusal });
         }
         at += 1;
     }
-    Ok(Gathered { frames, skipped })
+    Ok(CapturedScript { frames, skipped })
 }
 
 /// Appends the frames of a source's capture, and how many records were left out.

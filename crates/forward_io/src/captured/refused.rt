@@ -1,6 +1,6 @@
 //! A refusal, and the file that it concerns.
 ghost use Rattle.std.specs.Prelude.{◌≡◌};
-ghost use Rattle.requests.specs.declared.answers.TheConstants.{REFUSED};
+ghost use Rattle.requests.specs.declared.answers.TheConstants.{EXIT_REFUSED};
 ghost use Rattle.forward_io.specs.Refusals.{refused_itself};
 
 use crate::explaining::{explain_config, explain_file};
@@ -12,7 +12,7 @@ use std::io::Write;
 
 /// The subject of a refusal.
 #[derive(Clone, Copy, Debug)]
-pub enum Place {
+pub enum RefusalSubject {
     /// The source at this index, counted from 0.
     Source(usize),
     /// The wire file at this index, counted from 0.
@@ -23,30 +23,34 @@ pub enum Place {
 
 /// A refusal, and its subject.
 #[derive(Clone, Copy, Debug)]
-pub struct Refused {
+pub struct FileRefusal {
     /// The file that the refusal concerns, or the command.
-    pub place: Place,
+    pub place: RefusalSubject,
     /// The refusal.
     pub refusal: Refusal,
 }
 
-impl From<Refusal> for Refused {
+impl From<Refusal> for FileRefusal {
     ghost from_gives = { λ refusal refused. refused ≡ refused_itself refusal };
 
-    fn from(refusal: Refusal) -> Refused {
-        Refused {
-            place: Place::Command,
+    fn from(refusal: Refusal) -> FileRefusal {
+        FileRefusal {
+            place: RefusalSubject::Command,
             refusal,
         }
     }
 }
 
 /// The file that a refusal concerns, if any.
-fn file_of<'a>(sources: &[Source<'a>], wires: &[WireFile<'a>], place: Place) -> Option<&'a str> {
+fn file_of<'a>(
+    sources: &[Source<'a>],
+    wires: &[WireFile<'a>],
+    place: RefusalSubject,
+) -> Option<&'a str> {
     match place {
-        Place::Source(at) => sources.get(at).map(|source| source.file()),
-        Place::Wire(at) => wires.get(at).map(|wire| wire.file()),
-        Place::Command => None,
+        RefusalSubject::Source(at) => sources.get(at).map(|source| source.file()),
+        RefusalSubject::Wire(at) => wires.get(at).map(|wire| wire.file()),
+        RefusalSubject::Command => None,
     }
 }
 
@@ -57,7 +61,7 @@ fn explain_refused(
     config: &Config,
     sources: &[Source<'_>],
     wires: &[WireFile<'_>],
-    refused: Refused,
+    refused: FileRefusal,
 ) -> Result<(), AllocError> {
     if let Refusal::Forward(ForwardError::Config) = refused.refusal {
         return explain_config(why, config, sources);
@@ -75,11 +79,11 @@ pub fn tell<E: Write>(
     config: &Config,
     sources: &[Source<'_>],
     wires: &[WireFile<'_>],
-    refused: Refused,
+    refused: FileRefusal,
     mut why: String,
     explain: bool,
 ) -> u8
-    ensures { result ≡ REFUSED }
+    ensures { result ≡ EXIT_REFUSED }
 {
     if let Some(file) = file_of(sources, wires, refused.place) {
         let _ = write!(faults, "{file}: ");

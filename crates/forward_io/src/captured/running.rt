@@ -12,9 +12,9 @@ ghost use Rattle.forward_io.specs.Text.{report_text};
 ghost use Rattle.forward_io.specs.Streams.{IsStreamed, output_bytes};
 ghost use Rattle.requests.specs.Files.{streamed_port};
 
-use crate::captured::gathering::{Gathered, gather};
+use crate::captured::gathering::{CapturedScript, gather};
 use crate::captured::intake::Intake;
-use crate::captured::refused::{Place, Refused};
+use crate::captured::refused::{FileRefusal, RefusalSubject};
 use crate::captured::script::read_script;
 use crate::captured::skipping::skipped_lines;
 use crate::captured::targets::Target;
@@ -40,12 +40,18 @@ pub fn script_for<R: Files, I: Read>(
     intake: &Intake<'_, '_>,
     input: &mut I,
     why: &mut String,
-) -> Result<(Script, Vec<Skipped>), Refused>
+) -> Result<(Script, Vec<Skipped>), FileRefusal>
     ensures script { IfOk result (λ p. IsScript intake.now (I.remaining input.old) p.0 p.1.items) }
     ensures refused { IfErr result (λ e. IsNoScript intake.now (I.remaining input.old) e) }
     ensures unread { reads_script intake.now ≡ false → input.new ≡ input.old }
 {
-    let Gathered { frames, skipped } = gather(rt, alloc, intake.reading, intake.sources, why)?;
+    let CapturedScript { frames, skipped } = gather(
+        rt,
+        alloc,
+        intake.reading,
+        intake.sources,
+        why,
+    )?;
     if !intake.reads_script() {
         return Ok((Script::new(frames), skipped));
     }
@@ -65,7 +71,7 @@ pub fn page_for<R: Files>(
     wires: &[WireFile<'_>],
     targets: &[Target],
     flows: &[FlowReport],
-) -> Result<(Vec<u8>, Option<String>), Refused>
+) -> Result<(Vec<u8>, Option<String>), FileRefusal>
     requires pairs { pairs ≤ MOST_PAIRS }
     requires flows { length flows.now ≡ PORTS * pairs }
     requires targets { length targets.now ≡ length wires.now }
@@ -133,7 +139,7 @@ fn streamed(
     pairs: usize,
     wires: &[WireFile<'_>],
     flows: &[FlowReport],
-) -> Result<Option<Vec<u8>>, Refused>
+) -> Result<Option<Vec<u8>>, FileRefusal>
     requires pairs { pairs ≤ MOST_PAIRS }
     requires flows { length flows.now ≡ PORTS * pairs }
     ensures capture { IfOk result (λ found. IsStreamed (streamed_port wires.now) pairs flows.now (option_map (λ bytes. bytes.items) found)) }
@@ -146,8 +152,8 @@ fn streamed(
         return match wire_capture(alloc, flows, pairs, wires[at].port()) {
             Ok(bytes) => Ok(Some(bytes)),
             Err(refusal) => {
-                let place = Place::Wire(at);
-                Err(Refused { place, refusal })
+                let place = RefusalSubject::Wire(at);
+                Err(FileRefusal { place, refusal })
             }
         };
     }

@@ -5,7 +5,7 @@ ghost use Rattle.forward_io.specs.WireFiles.{IsTaken, IsUntargeted};
 
 use crate::captured::files::{not_written, source_path};
 use crate::captured::identity::{Identity, absent, identity_of};
-use crate::captured::refused::{Place, Refused};
+use crate::captured::refused::{FileRefusal, RefusalSubject};
 use requests::{Refusal, Source, WireFile, names_output};
 use std::alloc::{AllocError, Global};
 use std::fs;
@@ -45,7 +45,7 @@ pub fn targets_of<R: Files>(
     alloc: Global,
     sources: &[Source<'_>],
     wires: &[WireFile<'_>],
-) -> Result<Vec<Target>, Refused>
+) -> Result<Vec<Target>, FileRefusal>
     ensures each { IfOk result (λ targets. length targets.items ≡ length wires.now) }
     ensures refused { IfErr result (λ e. IsUntargeted wires.now e) }
 {
@@ -54,8 +54,8 @@ pub fn targets_of<R: Files>(
     for at in 0..wires.len() {
         let added = add_target(rt, alloc, wires[at].file(), &mut taken, &mut targets);
         if let Err(refusal) = added {
-            let place = Place::Wire(at);
-            return Err(Refused { place, refusal });
+            let place = RefusalSubject::Wire(at);
+            return Err(FileRefusal { place, refusal });
         }
     }
     Ok(targets)

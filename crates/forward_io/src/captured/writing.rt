@@ -8,7 +8,7 @@ ghost use Rattle.limits.specs.declared.profile.TheConstants.{MOST_PAIRS, PORTS};
 ghost use Rattle.forward_io.specs.WireFiles.{IsLost, IsUnpaged};
 
 use crate::captured::files::{is_kept_by, overwrite, remove, rename, write_into, write_part};
-use crate::captured::refused::{Place, Refused};
+use crate::captured::refused::{FileRefusal, RefusalSubject};
 use crate::captured::targets::Target;
 use crate::captured::wires::wire_capture;
 use forwarding::FlowReport;
@@ -27,7 +27,7 @@ pub(crate) fn write_wires<R: Files>(
     wires: &[WireFile<'_>],
     targets: &[Target],
     flows: &[FlowReport],
-) -> Result<(), Refused>
+) -> Result<(), FileRefusal>
     requires pairs { pairs ≤ MOST_PAIRS }
     requires flows { length flows.now ≡ PORTS * pairs }
     requires targets { length targets.now ≡ length wires.now }
@@ -39,8 +39,8 @@ pub(crate) fn write_wires<R: Files>(
         let written = add_part(rt, alloc, pairs, port, &targets[at], flows, &mut parts);
         if let Err(refusal) = written {
             remove_all(rt, parts.as_slice());
-            let place = Place::Wire(at);
-            return Err(Refused { place, refusal });
+            let place = RefusalSubject::Wire(at);
+            return Err(FileRefusal { place, refusal });
         }
     }
     put_all(rt, alloc, pairs, wires, targets, parts.as_slice(), flows)
@@ -101,7 +101,7 @@ fn put_all<R: Files>(
     targets: &[Target],
     parts: &[Option<String>],
     flows: &[FlowReport],
-) -> Result<(), Refused>
+) -> Result<(), FileRefusal>
     requires pairs { pairs ≤ MOST_PAIRS }
     requires flows { length flows.now ≡ PORTS * pairs }
     requires targets { length targets.now ≡ length wires.now }
@@ -120,8 +120,8 @@ fn put_all<R: Files>(
         );
         if let Err(refusal) = put {
             remove_all(rt, &parts[at + 1..]);
-            let place = Place::Wire(at);
-            return Err(Refused { place, refusal });
+            let place = RefusalSubject::Wire(at);
+            return Err(FileRefusal { place, refusal });
         }
     }
     Ok(())

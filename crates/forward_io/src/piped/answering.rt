@@ -2,7 +2,7 @@
 ghost use Rattle.std.specs.Prelude.{◌≡◌, ◌⊎◌, ℕ, List, None, Some, false, IfErr, IfOk, OnOk};
 ghost use Rattle.std.specs.Io.KnownBytes.{Keeps};
 ghost use Rattle.requests.specs.Answers.{EndsBy};
-ghost use Rattle.requests.specs.declared.answers.TheConstants.{DONE, REFUSED};
+ghost use Rattle.requests.specs.declared.answers.TheConstants.{EXIT_SUCCESS, EXIT_REFUSED};
 ghost use Rattle.requests.specs.declared.refusal.Refusal.TheVariants as refusal;
 ghost use Rattle.forward_io.specs.Meanings.{Prints, Withholds, meant};
 ghost use Rattle.requests.specs.Conversions.{IsPlaced, may_skip};
@@ -10,7 +10,7 @@ ghost use Rattle.requests.specs.Conversions.{IsPlaced, may_skip};
 use crate::piped::page::page_of;
 use crate::skips::{is_any, write_line};
 use capture::Skipped;
-use requests::{CaptureRequest, DONE, Refusal, put, refuse_explained};
+use requests::{CaptureRequest, EXIT_SUCCESS, Refusal, put, refuse_explained};
 use std::alloc::Global;
 use std::io::{Read, Write};
 
@@ -27,8 +27,8 @@ pub fn answer<I: Read, W: Write, E: Write, M: Write>(
     explain: bool,
 ) -> u8
     requires { IsPlaced request }
-    ensures status { (result ≡ DONE) ⊎ (result ≡ REFUSED) }
-    ensures done { result ≡ DONE → Keeps (E.contents faults.old) (E.contents faults.new) }
+    ensures status { (result ≡ EXIT_SUCCESS) ⊎ (result ≡ EXIT_REFUSED) }
+    ensures done { result ≡ EXIT_SUCCESS → Keeps (E.contents faults.old) (E.contents faults.new) }
     ensures ends { (bytes : List ℕ) → I.remaining input.old ≡ Some bytes
         → EndsBy (meant request bytes) result (W.contents output.old) (W.contents output.new) }
     ensures screen { may_skip request ≡ false → screen.new ≡ screen.old }
@@ -37,7 +37,7 @@ pub fn answer<I: Read, W: Write, E: Write, M: Write>(
     match perform(alloc, request, input, output, screen, &mut why) {
         Ok(()) => {
             drop(why);
-            DONE
+            EXIT_SUCCESS
         }
         Err(refusal) => {
             let status = refuse_explained(faults, refusal, why.as_str(), explain);

@@ -9,7 +9,7 @@ use crate::tests::gates::Paced;
 use crate::tests::readers::{Reader, readers_of};
 use crate::tests::trials::{Asked, ONCE, Trial, each_is_so};
 use crate::tests::wanted::holds;
-use counters::{DriveCell, DrivePass, Driven, FlowCells, FlowPens, Moment, StatCell, StatPass};
+use counters::{DriveCell, DrivePass, Driven, FlowCells, FlowPens, Snapshot, StatCell, StatPass};
 use flows::FlowReport;
 use forwarder::{Config, Report, forward_watched};
 use forwarding::{ForwardError, Open};

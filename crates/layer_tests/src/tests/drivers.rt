@@ -1,6 +1,6 @@
 //! The drivers over the running rings, by calls.
 
+mod expected;
 mod rx_tests;
 mod stashes;
-mod told;
 mod tx_tests;

@@ -2,6 +2,7 @@
 
 mod blocks;
 mod captures;
+mod files;
 mod scripts;
 mod skipping;
 mod telling;

@@ -12,7 +12,7 @@ use Rattle.shared_ring.specs.declared.events.ControllerEvent.TheVariants as cont
 use Rattle.rx_ring.specs.Calls.{FoundFree, FoundLeft, GoneOver, IsTold, SawNotDone, TookSegment, told_left}
 use Rattle.rx_ring.specs.declared.events.RxDriverOwn.TheVariants.{LoadedQuiet}
 use Rattle.rx_ring.specs.declared.events.RxControllerOwn.TheVariants.{SaidQuiet, WroteBack}
-use Rattle.rx_ring.specs.Ends.{DriverSide, ControllerSide, controller_grown, driver_grown, driver_size, fill_place, is_between, known_free, reclaimed, serve_place, stored, taken}
+use Rattle.rx_ring.specs.Ends.{DriverSide, ControllerSide, controller_grown, driver_grown, driver_size, fill_place, is_at_frame_end, known_free, reclaimed, serve_place, stored, taken}
 use Rattle.rx_ring.specs.Meeting.{MadeSeats, ledger_of, stored_now}
 use Rattle.poll82599_c.specs.Held.{Both, OfBoth, Tried}
 use Rattle.poll82599_c.specs.rings.Following.{IsBegun}
@@ -118,7 +118,7 @@ Served _ answer bytes eop old new = answer ≡ 4294967295
 -- the end belongs to the object's ring, and of the unfinished frame this many segments and bytes are stored
 pub record IsServing (ring : TableId) (c : ControllerSide) (begun : Begun) : Type 0 where
   pub own : c.table ≡ ring
-  pub begun_is : is_between c ≡ false → IsBegun piece_of (stored c) begun
+  pub begun_is : is_at_frame_end c ≡ false → IsBegun piece_of (stored c) begun
 
 -- the end belongs to the object's ring, and no buffer was reclaimed in this epoch unless `reclaiming`
 pub record IsDriving (ring : TableId) (d : DriverSide) (reclaiming : Bool) : Type 0 where

@@ -40,10 +40,10 @@ module _ {Ring Posted Completed Reaped D C : Type 0} {form : Form Ring Posted Co
   LoadedControl value old new = new ≡ driver_grown old (driver.LoadedControl value)
 
   -- a step of the handshake with this result
-  abbrev pub TriedShake : HandshakeStep → ℕ → DriverSide form → DriverSide form → Type 0
-  TriedShake AskEnable answer old new = Tried AskedEnable answer old new
-  TriedShake LoadControl answer old new = LoadedControl answer old new
-  TriedShake AskDisable answer old new = Tried AskedDisable answer old new
+  abbrev pub TriedControlStep : HandshakeStep → ℕ → DriverSide form → DriverSide form → Type 0
+  TriedControlStep AskEnable answer old new = Tried AskedEnable answer old new
+  TriedControlStep LoadControl answer old new = LoadedControl answer old new
+  TriedControlStep AskDisable answer old new = Tried AskedDisable answer old new
 
   -- C6: the oldest buffer in the ring is back
   pub record ReclaimedOne (old new : DriverSide form) : Type 0 where

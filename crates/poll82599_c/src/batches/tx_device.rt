@@ -5,8 +5,8 @@ ghost use Rattle.poll82599_c.specs.batches.Transmitting.{CopiedFirst, IsBeyond, 
 use crate::batches::found::Found;
 use crate::half::Half;
 use controller::{Turn, TxController, Wire};
+use ffi_handle::overwrite;
 use limits::MOST_FRAME;
-use opaque::overwrite;
 use std::alloc::Global;
 use tx_ring::TxRing;
 

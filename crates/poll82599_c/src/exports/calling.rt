@@ -4,7 +4,7 @@
 //! done; the other results are listed. `0xFFFF_FFFF` means an unknown operation, or a handle that is empty or of
 //! another kind; nothing changes. A handle is in one call at a time.
 ghost use Rattle.std.specs.Prelude.{◌≡◌, ◌≢◌, ◌<◌, ◌⊎◌, None};
-ghost use Rattle.opaque.specs.Words.{is_set};
+ghost use Rattle.ffi_handle.specs.Words.{is_set};
 ghost use Rattle.poll82599_c.specs.Handles.{as_packets, as_rx_controller, as_rx_device, as_rx_driver, as_rx_queue, as_tx_controller, as_tx_device, as_tx_driver, as_tx_queue};
 ghost use Rattle.poll82599_c.specs.Held.{Among, Between};
 ghost use Rattle.poll82599_c.specs.batches.Packets.{Handled, TriedPut};
@@ -22,7 +22,7 @@ use crate::call::{NO_OPERATION, Poll82599Call, Poll82599Device, Poll82599Packet,
 use crate::end::End;
 use crate::handle::{Handle, take_both};
 use crate::rings::Asking;
-use opaque::is_set;
+use ffi_handle::is_set;
 use shared_ring::HandshakeStep;
 use std::alloc::Global;
 
@@ -64,9 +64,9 @@ pub extern "C" fn poll82599_rx_drive(
                 call.eop = found.eop;
                 found.answer
             }
-            3 => receiving.shake(HandshakeStep::AskEnable),
-            4 => receiving.shake(HandshakeStep::LoadControl),
-            5 => receiving.shake(HandshakeStep::AskDisable),
+            3 => receiving.control_step(HandshakeStep::AskEnable),
+            4 => receiving.control_step(HandshakeStep::LoadControl),
+            5 => receiving.control_step(HandshakeStep::AskDisable),
             6 => receiving.is_quiet(),
             7 => receiving.reclaim(),
             8 => receiving.renew(),
@@ -118,9 +118,9 @@ pub extern "C" fn poll82599_tx_drive(
             }
             1 => sending.publish(),
             2 => sending.poll_report(),
-            3 => sending.shake(HandshakeStep::AskEnable),
-            4 => sending.shake(HandshakeStep::LoadControl),
-            5 => sending.shake(HandshakeStep::AskDisable),
+            3 => sending.control_step(HandshakeStep::AskEnable),
+            4 => sending.control_step(HandshakeStep::LoadControl),
+            5 => sending.control_step(HandshakeStep::AskDisable),
             6 => sending.clean(),
             7 => sending.reclaim(),
             8 => sending.renew(),

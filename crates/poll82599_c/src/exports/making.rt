@@ -3,7 +3,7 @@ ghost use Rattle.std.specs.Prelude.{◌≡◌, ◌≢◌, ◌<◌, ◌⊎◌, po
 ghost use Rattle.limits.specs.RingLength.{IsRingLength};
 ghost use Rattle.limits.specs.FillSize.{IsFillSize};
 ghost use Rattle.ring_model.specs.declared.states.Completion.TheVariants as by;
-ghost use Rattle.opaque.specs.Words.{is_set};
+ghost use Rattle.ffi_handle.specs.Words.{is_set};
 ghost use Rattle.poll82599_c.specs.Handles.{as_packets, as_rx_controller, as_rx_device, as_rx_driver, as_rx_queue, as_tx_controller, as_tx_device, as_tx_driver, as_tx_queue};
 ghost use Rattle.poll82599_c.specs.batches.Packets.{IsMade};
 ghost use Rattle.poll82599_c.specs.batches.Receiving as rx_queue;
@@ -14,7 +14,7 @@ ghost use Rattle.poll82599_c.specs.rings.TxEnds as tx;
 use crate::batches::fresh_packets;
 use crate::handle::Handle;
 use crate::makings::{completion_of, put_both, rx_ends, rx_queue, tx_ends, tx_queue};
-use opaque::is_set;
+use ffi_handle::is_set;
 use std::alloc::Global;
 
 /// Makes a receive ring of `descriptors` descriptors: its driver with `buffers` empty buffers, and its controller.

@@ -7,11 +7,11 @@ ghost use Rattle.tx_ring.specs.Ends.{posted};
 ghost use Rattle.poll82599_c.specs.rings.Following.{IsPosting};
 ghost use Rattle.poll82599_c.specs.rings.RxEnds.{FoundQuiet, PostedOne, TookNone, TookOne};
 ghost use Rattle.poll82599_c.specs.rings.TxEnds.{CleanedBuffer, PostedSegment, SawNoReport};
-ghost use Rattle.poll82599_c.specs.rings.Steps.{PublishedAll, ReclaimedOne, TriedShake};
+ghost use Rattle.poll82599_c.specs.rings.Steps.{PublishedAll, ReclaimedOne, TriedControlStep};
 
 use crate::rings::begun::{Asking, Begun};
 use crate::rings::handed::Handed;
-use crate::rings::handshake::{is_emptied, shake};
+use crate::rings::handshake::{control_step, is_emptied};
 use buffer_pool::Stash;
 use limits::BUFFER_BYTES;
 use rx_ring::{Poll, RxDriverEnd, RxRing};
@@ -98,12 +98,12 @@ impl RxDriving {
         }
     }
 
-    /// Makes a step of the handshake, and returns the result of `handshake::shake`.
-    pub(crate) fn shake(&mut self, step: HandshakeStep) -> u32
+    /// Makes a step of the handshake, and returns the result of `handshake::control_step`.
+    pub(crate) fn control_step(&mut self, step: HandshakeStep) -> u32
         ensures own { self.new.table ≡ self.old.table }
-        ensures step { TriedShake step result self.old self.new }
+        ensures step { TriedControlStep step result self.old self.new }
     {
-        shake(&mut self.end, &self.ring, step)
+        control_step(&mut self.end, &self.ring, step)
     }
 
     /// Loads the quiet word. Returns 1 if the controller stores no more, otherwise 0.
@@ -272,12 +272,12 @@ impl TxDriving {
         1
     }
 
-    /// Makes a step of the handshake, and returns the result of `handshake::shake`.
-    pub(crate) fn shake(&mut self, step: HandshakeStep) -> u32
+    /// Makes a step of the handshake, and returns the result of `handshake::control_step`.
+    pub(crate) fn control_step(&mut self, step: HandshakeStep) -> u32
         ensures own { self.new.table ≡ self.old.table }
-        ensures step { TriedShake step result self.old self.new }
+        ensures step { TriedControlStep step result self.old self.new }
     {
-        shake(&mut self.end, &self.ring, step)
+        control_step(&mut self.end, &self.ring, step)
     }
 
     /// Loads the head, and puts into `len` how many segments were posted and not sent when the disabling was answered.

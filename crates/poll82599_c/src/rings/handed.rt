@@ -4,7 +4,7 @@ ghost use Rattle.std.specs.Int.{from_bool};
 ghost use Rattle.limits.specs.declared.profile.TheConstants.{BUFFER_BYTES};
 
 use buffer_pool::Buf;
-use opaque::overwrite;
+use ffi_handle::overwrite;
 
 /// The result number, and the length and EOP of the segment that is handed out.
 #[derive(Clone, Copy)]

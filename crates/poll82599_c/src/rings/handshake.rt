@@ -2,20 +2,20 @@
 ghost use Rattle.std.specs.Prelude.{◌≡◌, true, length};
 ghost use Rattle.ring_model.specs.shared.Handshakes.{is_stopped};
 ghost use Rattle.shared_ring.specs.Ends.{driver_of, driver_record, driver_state, posted, returned};
-ghost use Rattle.poll82599_c.specs.rings.Steps.{TriedShake};
+ghost use Rattle.poll82599_c.specs.rings.Steps.{TriedControlStep};
 
 use shared_ring::{Direction, DriverEnd, HandshakeStep};
 
 /// Makes a step of the handshake. A load returns the control word: 0 off, 1 enabling asked for, 2 on, 3 disabling asked
 /// for. A request returns 1, or 0 if it stores nothing: an enabling was asked before, or the queue to disable is not
 /// on.
-pub(crate) fn shake<D, C, R: Direction<D, C>, E: DriverEnd<D, C, R>>(
+pub(crate) fn control_step<D, C, R: Direction<D, C>, E: DriverEnd<D, C, R>>(
     end: &mut E,
     ring: &E::Ring,
     step: HandshakeStep,
 ) -> u32
     requires own { (E.side end.old).table ≡ E.Ring.table ring.now }
-    ensures step { TriedShake step result (driver_of R.form (E.side end.old)) (driver_of R.form (E.side end.new)) }
+    ensures step { TriedControlStep step result (driver_of R.form (E.side end.old)) (driver_of R.form (E.side end.new)) }
     ensures rest { driver_record (driver_of R.form (E.side end.new)) ≡ record (driver_record (driver_of R.form (E.side end.old))) { state = driver_state (driver_of R.form (E.side end.new)) } }
 {
     match step {

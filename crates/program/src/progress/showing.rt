@@ -4,7 +4,7 @@ ghost use Rattle.program.specs.ShownSums.{Shows};
 
 use crate::progress::reader::Reader;
 use crate::progress::reading::{Seen, read_all};
-use forward_io::{ProgressLine, Shown};
+use forward_io::{LiveTotals, ProgressLine};
 use requests::ProgressForm;
 use std::io::Write;
 use std::sync::Wait;
@@ -47,7 +47,7 @@ fn millis_between(earlier: Option<Instant>, later: Option<Instant>) -> u64 {
 
 impl Last {
     /// Returns the report of these numbers, and keeps them as the last.
-    fn shown<C: Clock>(&mut self, clock: &C, seen: Seen, frames: u64) -> Shown
+    fn shown<C: Clock>(&mut self, clock: &C, seen: Seen, frames: u64) -> LiveTotals
         ensures shows { Shows seen frames result }
         ensures last { self.new.posted ≡ seen.posted }
     {
@@ -56,7 +56,7 @@ impl Last {
         let millis = millis_between(self.at, now);
         self.posted = seen.posted;
         self.at = now;
-        Shown {
+        LiveTotals {
             offered: seen.offered,
             frames,
             taken: seen.taken,

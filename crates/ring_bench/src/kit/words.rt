@@ -12,7 +12,7 @@ pub fn words_of<R: Env + AllocGlobal>(rt: &R) -> Result<Vec<String>> {
 
 /// A load: `frames` frames of `size` bytes each, through a ring of `ring` descriptors.
 #[derive(Clone, Copy)]
-pub struct Load {
+pub struct Workload {
     pub ring: u32,
     pub frames: u32,
     pub size: usize,
@@ -20,11 +20,11 @@ pub struct Load {
 
 /// Parses the load from the options `--ring`, `--frames` and `--size`. Returns nothing unless there are `words` words
 /// in all.
-pub fn load_of(options: &[String], words: usize) -> Option<Load> {
+pub fn load_of(options: &[String], words: usize) -> Option<Workload> {
     if options.len() != words {
         return None;
     }
-    Some(Load {
+    Some(Workload {
         ring: number_of(options, "--ring", MOST_RING as u32)?,
         frames: number_of(options, "--frames", u32::MAX)?,
         size: number_of(options, "--size", BUFFER_BYTES as u32)? as usize,
@@ -34,7 +34,7 @@ pub fn load_of(options: &[String], words: usize) -> Option<Load> {
 /// Frames that pass in batches.
 #[derive(Clone, Copy)]
 pub struct BatchPlan {
-    pub load: Load,
+    pub load: Workload,
     /// The most frames of a batch.
     pub batch: u32,
 }

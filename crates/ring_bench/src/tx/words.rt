@@ -1,12 +1,12 @@
 //! The command line.
 
-use crate::kit::{Load, load_of, number_of, value_of};
+use crate::kit::{Workload, load_of, number_of, value_of};
 use ring_model::Completion;
 
 /// A run of a transmit ring.
 #[derive(Clone, Copy)]
 pub struct TxPlan {
-    pub load: Load,
+    pub load: Workload,
     /// One in this many frames asks for a report, and so does the last frame.
     pub report: u32,
     pub completion: Completion,

@@ -23,7 +23,7 @@ use Rattle.ring_machine.specs.code.Receive.{next_slot, rx_moved}
 use Rattle.ring_machine.proofs.shared.Snoc.{found}
 use Rattle.ring_machine.proofs.shared.Slots.{put-here}
 use Rattle.ring_machine.proofs.shared.Fitting as fit
-use Rattle.ring_machine.proofs.shared.Shaking as shake
+use Rattle.ring_machine.proofs.shared.ControlStepping as control_step
 use Rattle.ring_machine.proofs.receive.Telling.{dd_set, due_word, fetched_slot, held_is, reclaimed_slot, taken_slot}
 use Rattle.ring_laws.specs.Queues.{held_below}
 
@@ -56,23 +56,23 @@ module _ (p : RxParts) (r : RxRing ℕ) (k : IsRxKept ℕ r.size r) (a : RxAgree
 
   moves-control : (c : ControlStep) → rx_can r (Control c) ≡ true → RxAgrees (rx_moved p (Control c)) (rx_changed r (Control c))
   moves-control c e = record {
-    queue = shake.fits-shake ends_segment word_rx buffer_rx p.queue r.queue k.queue a.queue c (rx_settled r) e;
+    queue = control_step.fits-control_step ends_segment word_rx buffer_rx p.queue r.queue k.queue a.queue c (rx_settled r) e;
     quiet = a.quiet;
     still = let q = a.queue in ap (λ (h : Handshake). not (enables h c) && p.still) q.handshake ∙ ap (λ (b : Bool). not (enables r.handshake c) && b) a.still;
   }
 
   pub rx_fits-moved : (s : RxStep ℕ) → rx_can r s ≡ true → RxAgrees (rx_moved p s) (rx_changed r s)
   rx_fits-moved (Post b) e = rests (rx_moved p (Post b)).queue (by r.queue (queue.Post b)) (fit.fits-post ends_segment word_rx buffer_rx p.queue r.queue k.queue a.queue sound b b 0 e refl refl)
-  rx_fits-moved Publish e = rests (rx_moved p Publish).queue (by r.queue queue.Publish) (shake.fits-publish ends_segment word_rx buffer_rx p.queue r.queue k.queue a.queue)
-  rx_fits-moved Look e = rests (rx_moved p Look).queue (by r.queue queue.Look) (shake.fits-look ends_segment word_rx buffer_rx p.queue r.queue k.queue a.queue)
+  rx_fits-moved Publish e = rests (rx_moved p Publish).queue (by r.queue queue.Publish) (control_step.fits-publish ends_segment word_rx buffer_rx p.queue r.queue k.queue a.queue)
+  rx_fits-moved Look e = rests (rx_moved p Look).queue (by r.queue queue.Look) (control_step.fits-look ends_segment word_rx buffer_rx p.queue r.queue k.queue a.queue)
   rx_fits-moved Fetch e = moves-fetch e
   rx_fits-moved (Store x eop) e = moves-store x eop e
   rx_fits-moved Take e = moves-due (due r) refl e
-  rx_fits-moved Head e = rests (rx_moved p Head).queue (by r.queue queue.Head) (shake.fits-head ends_segment word_rx buffer_rx p.queue r.queue k.queue a.queue e)
+  rx_fits-moved Head e = rests (rx_moved p Head).queue (by r.queue queue.Head) (control_step.fits-head ends_segment word_rx buffer_rx p.queue r.queue k.queue a.queue e)
   rx_fits-moved (Control c) e = moves-control c e
   rx_fits-moved Reclaim e = rests (rx_moved p Reclaim).queue (by r.queue queue.Reclaim) (fit.fits-reclaim ends_segment word_rx buffer_rx p.queue r.queue k.queue a.queue sound (Some 0) (slice_index r.ledger.posted (returned_count r.queue)) e (reclaimed_slot p r k a e))
   rx_fits-moved StoreQuiet e = record { queue = a.queue; quiet = refl; still = refl }
   rx_fits-moved LoadQuiet e = a
-  rx_fits-moved ClearHead e = rests (rx_moved p ClearHead).queue (by r.queue queue.ClearHead) (shake.fits-clear_head ends_segment word_rx buffer_rx p.queue r.queue k.queue a.queue e)
-  rx_fits-moved ClearTail e = rests (rx_moved p ClearTail).queue (by r.queue queue.ClearTail) (shake.fits-clear_tail ends_segment word_rx buffer_rx p.queue r.queue k.queue a.queue e)
-  rx_fits-moved ClearQuiet e = record { queue = shake.fits-renew ends_segment word_rx buffer_rx p.queue r.queue k.queue a.queue word_rx e; quiet = refl; still = a.still }
+  rx_fits-moved ClearHead e = rests (rx_moved p ClearHead).queue (by r.queue queue.ClearHead) (control_step.fits-clear_head ends_segment word_rx buffer_rx p.queue r.queue k.queue a.queue e)
+  rx_fits-moved ClearTail e = rests (rx_moved p ClearTail).queue (by r.queue queue.ClearTail) (control_step.fits-clear_tail ends_segment word_rx buffer_rx p.queue r.queue k.queue a.queue e)
+  rx_fits-moved ClearQuiet e = record { queue = control_step.fits-renew ends_segment word_rx buffer_rx p.queue r.queue k.queue a.queue word_rx e; quiet = refl; still = a.still }

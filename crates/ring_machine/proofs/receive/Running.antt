@@ -19,7 +19,7 @@ use Rattle.ring_machine.specs.shared.Machine.{told_owner}
 use Rattle.ring_machine.specs.receive.Machine.{RxAgrees, RxFollows, RxOwns, RxParts, RxRuns, buffer_rx, word_rx}
 use Rattle.ring_machine.specs.code.Receive.{rx_begun, rx_may, rx_moved, rx_told}
 use Rattle.ring_machine.proofs.shared.Running.{did-made, did-refused, kept-there, runs-answer, runs-append, runs-nil}
-use Rattle.ring_machine.proofs.shared.Shaking.{fits-begun}
+use Rattle.ring_machine.proofs.shared.ControlStepping.{fits-begun}
 use Rattle.ring_machine.proofs.shared.Owning.{owns}
 use Rattle.ring_machine.proofs.receive.Telling.{itself, named, rx_may_is, rx_told_is}
 use Rattle.ring_machine.proofs.receive.Moving.{rx_fits-moved}

@@ -64,7 +64,7 @@ module _ (p : RxParts) (r : RxRing ℕ) (k : IsRxKept ℕ r.size r) (a : RxAgree
   rx_may_is (Store x eop) = tell.serve-is ends_segment word_rx buffer_rx itself p.queue r.queue k.queue a.queue named (next_segment r x eop)
   rx_may_is Take = take_is
   rx_may_is Head = idle_is
-  rx_may_is (Control c) = tell.shake-is ends_segment word_rx buffer_rx itself p.queue r.queue k.queue a.queue c (looks_settled p.queue) (rx_settled r) (tell.settled-is ends_segment word_rx buffer_rx itself p.queue r.queue k.queue a.queue named)
+  rx_may_is (Control c) = tell.control_step-is ends_segment word_rx buffer_rx itself p.queue r.queue k.queue a.queue c (looks_settled p.queue) (rx_settled r) (tell.settled-is ends_segment word_rx buffer_rx itself p.queue r.queue k.queue a.queue named)
   rx_may_is Reclaim = tell.reclaim-is ends_segment word_rx buffer_rx itself p.queue r.queue k.queue a.queue
   rx_may_is StoreQuiet = and_same (is_idle p.queue) (is_serving r.handshake.controller && not r.held) p.queue.whole (is_whole r) idle_is (λ e. let q = a.queue in q.whole)
   rx_may_is LoadQuiet = refl

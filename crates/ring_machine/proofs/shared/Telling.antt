@@ -8,7 +8,7 @@ use Rattle.ring_model.specs.declared.steps.ControlStep.TheVariants.{AskEnable, L
 use Rattle.ring_model.specs.declared.handshake.Handshake.{Handshake}
 use Rattle.ring_model.specs.shared.Lists.{slot_at}
 use Rattle.ring_model.specs.shared.Frames.{ends_frame}
-use Rattle.ring_model.specs.shared.Handshakes.{is_open, is_live, is_serving, is_ended, is_stopped, is_new, is_on, is_between, can_enable, can_disable, may_shake}
+use Rattle.ring_model.specs.shared.Handshakes.{is_open, is_live, is_serving, is_ended, is_stopped, is_new, is_on, is_between_epochs, can_enable, can_disable, may_control_step}
 use Rattle.ring_model.specs.shared.QueueSteps as queue
 use Rattle.ring_model.specs.shared.Queue.{Queue, posted_count, completed_count, reaped_count, returned_count, next_head, is_settled, may}
 use Rattle.ring_model.specs.shared.Agreement.{Agrees, Wrapped}
@@ -36,7 +36,7 @@ module _ {Posted Completed Reaped : Type 0} (ends : Completed → Bool) (word_of
   AreNamed q = (j : ℕ) (x : Posted) → slice_get q.ledger.posted j ≡ Some x → buffer_of_item (Some x) (slice_get q.ledger.completed j) ≡ Some (number x)
 
   module _ (w : Wrapped ℕ) (q : Queue Posted Completed Reaped) (k : IsKept q.size ends q) (a : Agrees {Reaped = Reaped} ends word_of_item buffer_of_item w q) where
-    pub unbetween : is_serving q.handshake.controller ≡ true → is_between q.handshake ≡ false
+    pub unbetween : is_serving q.handshake.controller ≡ true → is_between_epochs q.handshake ≡ false
     unbetween serving = and_left (is_ended q.handshake.controller) (is_open q.handshake.driver) (serving_unended q.handshake.controller serving)
 
     pub serve_is : is_serving q.handshake.controller ≡ true → w.serve ≡ next_head q
@@ -71,13 +71,13 @@ module _ {Posted Completed Reaped : Type 0} (ends : Completed → Bool) (word_of
     clear_head-is = and_same (is_stopped w.handshake.driver) (is_stopped q.handshake.driver) (are_all_back w) (returned_count q == posted_count q) (ap (λ (h : Handshake). is_stopped h.driver) a.handshake) (λ e. all_back_is)
 
     -- whether a disabling may be answered matters only while the controller serves
-    pub shake-is : (c : ControlStep) (looks settled : Bool) → (is_serving q.handshake.controller ≡ true → looks ≡ settled) → may_shake w.handshake c looks ≡ may q (queue.Shake c settled)
-    shake-is AskEnable looks settled e = ap (λ (h : Handshake). is_new h.driver) a.handshake
-    shake-is LookAsked looks settled e = refl
-    shake-is Answer looks settled e = ap (λ (h : Handshake). can_enable h || (can_disable h && looks)) a.handshake
+    pub control_step-is : (c : ControlStep) (looks settled : Bool) → (is_serving q.handshake.controller ≡ true → looks ≡ settled) → may_control_step w.handshake c looks ≡ may q (queue.Controls c settled)
+    control_step-is AskEnable looks settled e = ap (λ (h : Handshake). is_new h.driver) a.handshake
+    control_step-is LookAsked looks settled e = refl
+    control_step-is Answer looks settled e = ap (λ (h : Handshake). can_enable h || (can_disable h && looks)) a.handshake
         ∙ ap (λ (b : Bool). can_enable q.handshake || b) (and_same (can_disable q.handshake) (can_disable q.handshake) looks settled refl (λ d. let t = and_parts (q.handshake.seen == 3) (is_serving q.handshake.controller) d in e t.1))
-    shake-is LookAnswered looks settled e = refl
-    shake-is AskDisable looks settled e = ap (λ (h : Handshake). is_on h.driver) a.handshake
+    control_step-is LookAnswered looks settled e = refl
+    control_step-is AskDisable looks settled e = ap (λ (h : Handshake). is_on h.driver) a.handshake
 
     module _ (named : AreNamed q) where
       pub held_is : (x : Posted) → q.held ≡ true → slice_get q.ledger.posted (completed_count q) ≡ Some x → w.held ≡ Some (number x)

@@ -19,7 +19,7 @@ use Rattle.ring_laws.specs.Lists.{beginning_at, slice_get-front}
 use Rattle.ring_laws.specs.Places.{each_item-set}
 use Rattle.ring_model.specs.kept.Queues.{IsKept}
 use Rattle.ring_laws.specs.States.{serving_unanswered}
-use Rattle.ring_laws.specs.Queues.{shook}
+use Rattle.ring_laws.specs.Queues.{control_fits_of}
 use Rattle.ring_model.proofs.shared.Stepping.{kept-clear_tail, kept-complete}
 use Rattle.ring_model.specs.kept.Transmit.{IsTxKept}
 use Rattle.ring_model.specs.shared.Places.{place_next}
@@ -31,14 +31,14 @@ use Rattle.ring_machine.specs.code.Transmit.{after_load, after_report, after_sen
 use Rattle.ring_machine.proofs.shared.Snoc.{ends_frame-snoc, found, snoc_end}
 use Rattle.ring_machine.proofs.shared.Slots.{put-here}
 use Rattle.ring_machine.proofs.shared.Fitting as fit
-use Rattle.ring_machine.proofs.shared.Shaking as shake
+use Rattle.ring_machine.proofs.shared.ControlStepping as control_step
 use Rattle.ring_machine.proofs.transmit.Bits.{eop_told, placed, rs_told}
 use Rattle.ring_machine.proofs.transmit.Telling.{clean_facts, fetch_facts, fetched_found, fetched_slot, held_found, held_is, made_is, moved_on, oldest_is, owed_place, owed_serve, reclaim_facts, sent_length, sent_word, untold}
 
 -- another epoch begins
 anew : (p : TxParts) (r : TxRing ℕ) → IsKept r.size ends_posting r.queue → TxAgrees p r → is_tailed r.handshake.driver ≡ true → TxAgrees (tx_after_renew p) (tx_renewed r)
 anew p r k a e = let some = k.places in let low = mod-eq_of_lt (let pos : 0 < r.size = omega arith in pos) in record {
-  queue = shake.fits-renew ends_posting (word_tx (is_told r)) buffer_tx p.queue r.queue k a.queue (word_tx (is_told (tx_renewed r))) e;
+  queue = control_step.fits-renew ends_posting (word_tx (is_told r)) buffer_tx p.queue r.queue k a.queue (word_tx (is_told (tx_renewed r))) e;
   completion = a.completion;
   report = λ e. sym low;
   rep = sym low;
@@ -97,7 +97,7 @@ module _ (p : TxParts) (r : TxRing ℕ) (k : IsTxKept ℕ r.size r) (a : TxAgree
       let eop : q.eop ≡ word_eop (serve_word p) = sym (ap word_eop word ∙ eop_told q.payload q.eop q.rs q.paylen short) in
       let word_of_item : serve_word p ≡ word_tx (is_told r) (completed_count r.queue) (slice_get r.ledger.posted (completed_count r.queue)) (Some q) = rw e (rw none word) in
       let completed = fit.fits-completed ends_posting (word_tx (is_told r)) buffer_tx p.queue r.queue k.queue a.queue sound.queue q None (word_eop (serve_word p)) q.number held eop word_of_item (rw e refl) in record {
-        queue = shake.fits-head ends_posting (word_tx (is_told r)) buffer_tx (after_serve p.queue None (word_eop (serve_word p)) (Some q.number)) (by r.queue (queue.Complete q)) (kept-complete r.size ends_posting r.queue k.queue q held) completed
+        queue = control_step.fits-head ends_posting (word_tx (is_told r)) buffer_tx (after_serve p.queue None (word_eop (serve_word p)) (Some q.number)) (by r.queue (queue.Complete q)) (kept-complete r.size ends_posting r.queue k.queue q held) completed
             (and_from (is_serving r.handshake.controller) true serving refl);
         completion = a.completion;
         report = a.report;
@@ -156,7 +156,7 @@ module _ (p : TxParts) (r : TxRing ℕ) (k : IsTxKept ℕ r.size r) (a : TxAgree
 
   reported : (head : Bool) → by_head r.completion ≡ head → r.owed ≡ true → TxAgrees (after_report p head) made
   reported false h owed = let q = a.queue in let i = q.items in let s = k.reports in let kq = k.queue in let o = kq.order in let b = s.owed_last owed in let c = s.reaped_seen in let d = s.seen_reported in let e = o.completed_posted in
-      let serving = s.owed_serving owed in let none = o.not_reclaimed (serving_unanswered r.handshake.driver r.handshake.controller r.handshake.control r.handshake.seen serving (shook r.size ends_posting r.queue k.queue)) in
+      let serving = s.owed_serving owed in let none = o.not_reclaimed (serving_unanswered r.handshake.driver r.handshake.controller r.handshake.control r.handshake.seen serving (control_fits_of r.size ends_posting r.queue k.queue)) in
       let at = owed_place p r k a owed in let below : place_before p.queue.size p.queue.serve < length p.queue.words = let l = sound.queue in let w = l.words in let some = l.some_places in let v = l.serve in below_before p.queue.size p.queue.serve (length p.queue.words) (omega arith) v w in
       let w = fit.word-writes ends_posting (word_tx (is_told r)) buffer_tx p.queue r.queue k.queue a.queue sound.queue (completed_count r.queue - 1) (place_before p.queue.size p.queue.serve) done_word (Some done_word) at (put-here p.queue.words (place_before p.queue.size p.queue.serve) done_word below) in
       let g = found r.ledger.completed (completed_count r.queue - 1) (omega arith) in let x : Posting ℕ = g.0 in let posted = beginning_at r.ledger.completed r.ledger.posted (completed_count r.queue - 1) x k.sent g.1 in
@@ -215,7 +215,7 @@ module _ (p : TxParts) (r : TxRing ℕ) (k : IsTxKept ℕ r.size r) (a : TxAgree
 
   moves-control : (c : ControlStep) → tx_can r (Control c) ≡ true → TxAgrees (tx_moved p (Control c)) (tx_changed r (Control c))
   moves-control c e = let q = a.queue in record {
-    queue = shake.fits-shake ends_posting (word_tx (is_told r)) buffer_tx p.queue r.queue k.queue a.queue c (tx_settled r) e;
+    queue = control_step.fits-control_step ends_posting (word_tx (is_told r)) buffer_tx p.queue r.queue k.queue a.queue c (tx_settled r) e;
     completion = a.completion;
     report = a.report;
     rep = a.rep;
@@ -225,7 +225,7 @@ module _ (p : TxParts) (r : TxRing ℕ) (k : IsTxKept ℕ r.size r) (a : TxAgree
   }
 
   clears_tail : tx_can r ClearTail ≡ true → TxAgrees (record p { queue = after_clear_tail p.queue }) (record r { queue = by r.queue queue.ClearTail })
-  clears_tail e = rests (after_clear_tail p.queue) (by r.queue queue.ClearTail) refl refl (omega arith) (shake.fits-clear_tail ends_posting (word_tx (is_told r)) buffer_tx p.queue r.queue k.queue a.queue e)
+  clears_tail e = rests (after_clear_tail p.queue) (by r.queue queue.ClearTail) refl refl (omega arith) (control_step.fits-clear_tail ends_posting (word_tx (is_told r)) buffer_tx p.queue r.queue k.queue a.queue e)
 
   cleared : (head : Bool) → tx_can r ClearTail ≡ true → TxAgrees (tx_after_clear p head) (tx_cleared r head)
   cleared false e = anew (record p { queue = after_clear_tail p.queue }) (record r { queue = by r.queue queue.ClearTail }) (kept-clear_tail r.size ends_posting r.queue k.queue e) (clears_tail e) refl
@@ -233,8 +233,8 @@ module _ (p : TxParts) (r : TxRing ℕ) (k : IsTxKept ℕ r.size r) (a : TxAgree
 
   pub tx_fits-moved : (s : TxStep (Posting ℕ)) → StepFits s → tx_can r s ≡ true → TxAgrees (tx_moved p s) (tx_changed r s)
   tx_fits-moved (Post b) short e = moves-post b short e
-  tx_fits-moved Publish short e = rests (tx_moved p Publish).queue (by r.queue queue.Publish) refl refl (omega arith) (shake.fits-publish ends_posting (word_tx (is_told r)) buffer_tx p.queue r.queue k.queue a.queue)
-  tx_fits-moved Look short e = rests (tx_moved p Look).queue (by r.queue queue.Look) refl refl (omega arith) (shake.fits-look ends_posting (word_tx (is_told r)) buffer_tx p.queue r.queue k.queue a.queue)
+  tx_fits-moved Publish short e = rests (tx_moved p Publish).queue (by r.queue queue.Publish) refl refl (omega arith) (control_step.fits-publish ends_posting (word_tx (is_told r)) buffer_tx p.queue r.queue k.queue a.queue)
+  tx_fits-moved Look short e = rests (tx_moved p Look).queue (by r.queue queue.Look) refl refl (omega arith) (control_step.fits-look ends_posting (word_tx (is_told r)) buffer_tx p.queue r.queue k.queue a.queue)
   tx_fits-moved Fetch short e = moves-fetch e
   tx_fits-moved Send short e = moves-send e
   tx_fits-moved Report short e = moves-report e
@@ -242,6 +242,6 @@ module _ (p : TxParts) (r : TxRing ℕ) (k : IsTxKept ℕ r.size r) (a : TxAgree
   tx_fits-moved Clean short e = moves-clean e
   tx_fits-moved (Control c) short e = moves-control c e
   tx_fits-moved Reclaim short e = moves-reclaim e
-  tx_fits-moved ClearHead short e = rests (tx_moved p ClearHead).queue (by r.queue queue.ClearHead) refl refl (omega arith) (shake.fits-clear_head ends_posting (word_tx (is_told r)) buffer_tx p.queue r.queue k.queue a.queue e)
+  tx_fits-moved ClearHead short e = rests (tx_moved p ClearHead).queue (by r.queue queue.ClearHead) refl refl (omega arith) (control_step.fits-clear_head ends_posting (word_tx (is_told r)) buffer_tx p.queue r.queue k.queue a.queue e)
   tx_fits-moved ClearTail short e = subst (λ (b : Bool). TxAgrees (tx_after_clear p b) (tx_cleared r (by_head r.completion))) (sym (ap by_head a.completion)) (cleared (by_head r.completion) e)
   tx_fits-moved ClearReport short e = let t = and_parts (by_head r.completion) (is_tailed r.handshake.driver) e in anew p r k.queue a t.1

@@ -21,7 +21,7 @@ use Rattle.ring_machine.specs.code.Sound.{IsSound}
 use Rattle.ring_machine.specs.code.TxSound.{IsTxSound, StepFits}
 use Rattle.ring_machine.specs.code.Transmit.{tx_begun, tx_may, tx_moved, tx_told}
 use Rattle.ring_machine.proofs.shared.Running.{did-made, did-refused, kept-there, runs-answer, runs-append, runs-nil}
-use Rattle.ring_machine.proofs.shared.Shaking.{fits-begun}
+use Rattle.ring_machine.proofs.shared.ControlStepping.{fits-begun}
 use Rattle.ring_machine.proofs.shared.Owning.{owns}
 use Rattle.ring_machine.proofs.transmit.Telling.{named, tx_may_is, tx_told_is}
 use Rattle.ring_machine.proofs.transmit.Moving.{tx_fits-moved}

@@ -86,7 +86,7 @@ module _ (p : TxParts) (r : TxRing ℕ) (k : IsTxKept ℕ r.size r) (a : TxAgree
   tx_may_is Report = a.owed
   tx_may_is LoadReport = load_is
   tx_may_is Clean = clean_is
-  tx_may_is (Control c) = tell.shake-is ends_posting (word_tx (is_told r)) buffer_tx number_of_posting p.queue r.queue k.queue a.queue c (looks_settled p.queue && not p.owed) (tx_settled r) settled_is
+  tx_may_is (Control c) = tell.control_step-is ends_posting (word_tx (is_told r)) buffer_tx number_of_posting p.queue r.queue k.queue a.queue c (looks_settled p.queue && not p.owed) (tx_settled r) settled_is
   tx_may_is Reclaim = tell.reclaim-is ends_posting (word_tx (is_told r)) buffer_tx number_of_posting p.queue r.queue k.queue a.queue
   tx_may_is ClearHead = tell.clear_head-is ends_posting (word_tx (is_told r)) buffer_tx number_of_posting p.queue r.queue k.queue a.queue
   tx_may_is ClearTail = let q = a.queue in ap (λ (h : Handshake). is_cleared h.driver) q.handshake

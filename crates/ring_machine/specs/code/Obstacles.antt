@@ -81,12 +81,12 @@ answer_obstacle w rest = if w.handshake.seen == 1 then needs (not (is_serving w.
     else (if w.handshake.seen == 3 then settled_obstacle w rest else Some NothingAsked)
 
 -- `rest` is the obstacle to answering a disabling that is not in the queue itself.
-abbrev pub shake_obstacle : Wrapped ℕ → ControlStep → Option Obstacle → Option Obstacle
-shake_obstacle w AskEnable rest = needs (is_new w.handshake.driver) NotNew
-shake_obstacle w LookAsked rest = None
-shake_obstacle w Answer rest = answer_obstacle w rest
-shake_obstacle w LookAnswered rest = None
-shake_obstacle w AskDisable rest = needs (is_on w.handshake.driver) NotOn
+abbrev pub control_obstacle : Wrapped ℕ → ControlStep → Option Obstacle → Option Obstacle
+control_obstacle w AskEnable rest = needs (is_new w.handshake.driver) NotNew
+control_obstacle w LookAsked rest = None
+control_obstacle w Answer rest = answer_obstacle w rest
+control_obstacle w LookAnswered rest = None
+control_obstacle w AskDisable rest = needs (is_on w.handshake.driver) NotOn
 
 abbrev pub rx_obstacle : RxParts → RxStep ℕ → Option Obstacle
 rx_obstacle p (rx.Post b) = post_obstacle p.queue
@@ -96,7 +96,7 @@ rx_obstacle p rx.Fetch = fetch_obstacle p.queue (needs (not p.still) Quiet)
 rx_obstacle p (rx.Store x eop) = needs (not (is_none p.queue.held)) NotHolding
 rx_obstacle p rx.Take = unless (is_live p.queue.handshake.driver) NotLive (out_obstacle p.queue)
 rx_obstacle p rx.Head = idle_obstacle p.queue None
-rx_obstacle p (rx.Control c) = shake_obstacle p.queue c None
+rx_obstacle p (rx.Control c) = control_obstacle p.queue c None
 rx_obstacle p rx.Reclaim = unless (is_stopped p.queue.handshake.driver) NotStopped (out_obstacle p.queue)
 rx_obstacle p rx.StoreQuiet = idle_obstacle p.queue (needs p.queue.whole MidFrame)
 rx_obstacle p rx.LoadQuiet = None
@@ -113,7 +113,7 @@ tx_obstacle p tx.Send = needs (not (is_none p.queue.held)) NotHolding
 tx_obstacle p tx.Report = needs p.owed NoReportDue
 tx_obstacle p tx.LoadReport = unless (is_live p.queue.handshake.driver) NotLive (needs (is_there (oldest_place p)) NoReportAwaited)
 tx_obstacle p tx.Clean = unless (is_live p.queue.handshake.driver) NotLive (needs (not (p.queue.next == p.rep)) NotReported)
-tx_obstacle p (tx.Control c) = shake_obstacle p.queue c (needs (not p.owed) ReportDue)
+tx_obstacle p (tx.Control c) = control_obstacle p.queue c (needs (not p.owed) ReportDue)
 tx_obstacle p tx.Reclaim = unless (is_stopped p.queue.handshake.driver) NotStopped (out_obstacle p.queue)
 tx_obstacle p tx.ClearHead = unless (is_stopped p.queue.handshake.driver) NotStopped (needs (are_all_back p.queue) SomeOut)
 tx_obstacle p tx.ClearTail = needs (is_cleared p.queue.handshake.driver) NotCleared

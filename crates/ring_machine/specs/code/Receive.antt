@@ -5,12 +5,12 @@ use Rattle.ring_model.specs.declared.steps.RxStep.{RxStep}
 use Rattle.ring_model.specs.declared.steps.RxStep.TheVariants.{Post, Publish, Look, Fetch, Store, Take, Head, Control, Reclaim, StoreQuiet, LoadQuiet, ClearHead, ClearTail, ClearQuiet}
 use Rattle.ring_model.specs.declared.notes.Note.{Note}
 use Rattle.ring_model.specs.declared.notes.Note.TheVariants as note
-use Rattle.ring_model.specs.shared.Handshakes.{control_value, enables, is_cleared, is_live, is_open, is_serving, is_stopped, is_tailed, may_shake}
+use Rattle.ring_model.specs.shared.Handshakes.{control_value, enables, is_cleared, is_live, is_open, is_serving, is_stopped, is_tailed, may_control_step}
 use Rattle.ring_model.specs.shared.Lists.{slot_at}
 use Rattle.ring_model.specs.receive.Agreement.{rx_word}
 use Rattle.refusals.specs.declared.errors.MachineError.{MachineError}
 use Rattle.ring_model.specs.shared.Places.{between_places}
-use Rattle.ring_machine.specs.code.Shared.{after_clear_head, after_clear_tail, after_fetch, after_head, after_look, after_out, after_post, after_publish, after_renew, after_serve, after_shake, are_all_back, begun, can_fetch, can_post, is_idle, looks_settled, refused_empty}
+use Rattle.ring_machine.specs.code.Shared.{after_clear_head, after_clear_tail, after_fetch, after_head, after_look, after_out, after_post, after_publish, after_renew, after_serve, after_control, are_all_back, begun, can_fetch, can_post, is_idle, looks_settled, refused_empty}
 use Rattle.ring_machine.specs.receive.Machine.{RxParts}
 
 abbrev pub rx_may : RxParts → RxStep ℕ → Bool
@@ -21,7 +21,7 @@ rx_may p Fetch = can_fetch p.queue && not p.still
 rx_may p (Store x eop) = not (is_none p.queue.held)
 rx_may p Take = is_live p.queue.handshake.driver && not (are_all_back p.queue)
 rx_may p Head = is_idle p.queue
-rx_may p (Control c) = may_shake p.queue.handshake c (looks_settled p.queue)
+rx_may p (Control c) = may_control_step p.queue.handshake c (looks_settled p.queue)
 rx_may p Reclaim = is_stopped p.queue.handshake.driver && not (are_all_back p.queue)
 rx_may p StoreQuiet = is_idle p.queue && p.queue.whole
 rx_may p LoadQuiet = true
@@ -74,7 +74,7 @@ rx_moved p Fetch = record p { queue = after_fetch p.queue (slot_at p.queue.slots
 rx_moved p (Store x eop) = record p { queue = after_serve p.queue (Some (rx_word x eop)) eop p.queue.held }
 rx_moved p Take = if has_dd (next_word p) then record p { queue = after_out p.queue None (next_slot p) } else p
 rx_moved p Head = record p { queue = after_head p.queue }
-rx_moved p (Control c) = record p { queue = after_shake p.queue c; still = not (enables p.queue.handshake c) && p.still }
+rx_moved p (Control c) = record p { queue = after_control p.queue c; still = not (enables p.queue.handshake c) && p.still }
 rx_moved p Reclaim = record p { queue = after_out p.queue (Some 0) (next_slot p) }
 rx_moved p StoreQuiet = record p { quiet = 1; still = true }
 rx_moved p LoadQuiet = p

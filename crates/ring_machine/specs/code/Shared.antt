@@ -3,7 +3,7 @@ use Rattle.std.specs.Prelude.{ℕ, replicate, Bool, true, not, ◌&&◌, ◌==�
 use Rattle.ring_model.specs.declared.states.DriverState.TheVariants.{New, Cleared, Tailed}
 use Rattle.ring_model.specs.declared.steps.ControlStep.{ControlStep}
 use Rattle.ring_model.specs.declared.notes.Note.{Note}
-use Rattle.ring_model.specs.shared.Handshakes.{is_open, is_serving, first_handshake, enables, shaken}
+use Rattle.ring_model.specs.shared.Handshakes.{is_open, is_serving, first_handshake, enables, after_control_step}
 use Rattle.ring_model.specs.shared.Agreement.{Wrapped}
 use Rattle.ring_model.specs.shared.Places.{place_next}
 use Rattle.refusals.specs.declared.errors.MachineError.{MachineError}
@@ -65,8 +65,8 @@ after_out w word None = w
 after_out w word (Some b) = record w { words = word_put w.words w.next word; slots = slice_set w.slots w.next None; next = place_next w.size w.next }
 
 -- An answered enabling resets the controller's places.
-abbrev pub after_shake : Wrapped ℕ → ControlStep → Wrapped ℕ
-after_shake w c = record w { serve = if enables w.handshake c then 0 else w.serve; known = if enables w.handshake c then 0 else w.known; handshake = shaken w.handshake c }
+abbrev pub after_control : Wrapped ℕ → ControlStep → Wrapped ℕ
+after_control w c = record w { serve = if enables w.handshake c then 0 else w.serve; known = if enables w.handshake c then 0 else w.known; handshake = after_control_step w.handshake c }
 
 abbrev pub after_clear_head : Wrapped ℕ → Wrapped ℕ
 after_clear_head w = record w { head = 0; handshake = record w.handshake { driver = Cleared } }

@@ -5,14 +5,14 @@ use Rattle.ring_model.specs.declared.steps.TxStep.{TxStep}
 use Rattle.ring_model.specs.declared.steps.TxStep.TheVariants.{Post, Publish, Look, Fetch, Send, Report, LoadReport, Clean, Control, Reclaim, ClearHead, ClearTail, ClearReport}
 use Rattle.ring_model.specs.declared.notes.Note.{Note}
 use Rattle.ring_model.specs.declared.notes.Note.TheVariants as note
-use Rattle.ring_model.specs.shared.Handshakes.{control_value, enables, is_cleared, is_live, is_open, is_serving, is_stopped, is_tailed, may_shake}
+use Rattle.ring_model.specs.shared.Handshakes.{control_value, enables, is_cleared, is_live, is_open, is_serving, is_stopped, is_tailed, may_control_step}
 use Rattle.ring_model.specs.shared.Lists.{slot_at}
 use Rattle.ring_model.specs.transmit.Ring.{Posting, TxBeginning}
 use Rattle.ring_model.specs.transmit.Steps.{by_head, is_there}
 use Rattle.ring_model.specs.transmit.Agreement.{done_word, tx_word}
 use Rattle.refusals.specs.declared.errors.MachineError.{MachineError}
 use Rattle.ring_model.specs.shared.Places.{between_places, place_next}
-use Rattle.ring_machine.specs.code.Shared.{after_clear_head, after_clear_tail, after_fetch, after_head, after_look, after_out, after_post, after_publish, after_renew, after_serve, after_shake, are_all_back, begun, can_fetch, can_post, looks_settled, refused_empty, word_put}
+use Rattle.ring_machine.specs.code.Shared.{after_clear_head, after_clear_tail, after_fetch, after_head, after_look, after_out, after_post, after_publish, after_renew, after_serve, after_control, are_all_back, begun, can_fetch, can_post, looks_settled, refused_empty, word_put}
 use Rattle.ring_machine.specs.transmit.Machine.{TxParts}
 use Rattle.ring_machine.specs.code.Words.{first_asking, place_before, word_eop, word_len, word_rs}
 
@@ -33,7 +33,7 @@ tx_may p Send = not (is_none p.queue.held)
 tx_may p Report = p.owed
 tx_may p LoadReport = is_live p.queue.handshake.driver && is_there (oldest_place p)
 tx_may p Clean = is_live p.queue.handshake.driver && not (p.queue.next == p.rep)
-tx_may p (Control c) = may_shake p.queue.handshake c (looks_settled p.queue && not p.owed)
+tx_may p (Control c) = may_control_step p.queue.handshake c (looks_settled p.queue && not p.owed)
 tx_may p Reclaim = is_stopped p.queue.handshake.driver && not (are_all_back p.queue)
 tx_may p ClearHead = is_stopped p.queue.handshake.driver && are_all_back p.queue
 tx_may p ClearTail = is_cleared p.queue.handshake.driver
@@ -103,7 +103,7 @@ tx_moved p Send = after_send p (serve_word p) p.queue.held
 tx_moved p Report = after_report p (by_head p.completion)
 tx_moved p LoadReport = after_load p (oldest_place p)
 tx_moved p Clean = record p { queue = after_out p.queue (Some 0) (next_slot p) }
-tx_moved p (Control c) = record p { queue = after_shake p.queue c; owed = not (enables p.queue.handshake c) && p.owed }
+tx_moved p (Control c) = record p { queue = after_control p.queue c; owed = not (enables p.queue.handshake c) && p.owed }
 tx_moved p Reclaim = record p { queue = after_out p.queue (Some 0) (next_slot p) }
 tx_moved p ClearHead = record p { queue = after_clear_head p.queue }
 tx_moved p ClearTail = tx_after_clear p (by_head p.completion)

@@ -1,7 +1,7 @@
 //! The obstacles of each step.
 
 ghost use Rattle.std.specs.Prelude.{◌≡◌};
-ghost use Rattle.ring_machine.specs.code.Obstacles.{answer_obstacle, fetch_obstacle, idle_obstacle, needs, out_obstacle, post_obstacle, settled_obstacle, shake_obstacle, unless};
+ghost use Rattle.ring_machine.specs.code.Obstacles.{answer_obstacle, fetch_obstacle, idle_obstacle, needs, out_obstacle, post_obstacle, settled_obstacle, control_obstacle, unless};
 
 use crate::machine::queue::QueueMachine;
 use crate::obstacle::Obstacle;
@@ -88,12 +88,12 @@ impl QueueMachine {
     }
 
     /// Why a step of the handshake cannot happen. `rest` is what else hinders the answer to a disabling.
-    pub(crate) fn shake_obstacle(
+    pub(crate) fn control_obstacle(
         &self,
         step: ControlStep,
         rest: Option<Obstacle>,
     ) -> Option<Obstacle>
-        ensures { result ≡ shake_obstacle self.now step rest }
+        ensures { result ≡ control_obstacle self.now step rest }
     {
         let driver = self.handshake().driver;
         match step {

@@ -11,7 +11,7 @@ ghost use Rattle.ring_machine.specs.code.Sound.{IsSound};
 ghost use Rattle.ring_machine.specs.Registers.{registers_held};
 ghost use Rattle.ring_machine.specs.shared.Machine.{told_owner};
 ghost use Rattle.ring_model.specs.shared.Places.{between_places};
-ghost use Rattle.ring_machine.specs.code.Shared.{after_clear_head, after_clear_tail, after_fetch, after_head, after_look, after_out, after_post, after_publish, after_renew, after_serve, after_shake, are_all_back, begun, can_fetch, can_post, is_idle, looks_settled, word_put};
+ghost use Rattle.ring_machine.specs.code.Shared.{after_clear_head, after_clear_tail, after_fetch, after_head, after_look, after_out, after_post, after_publish, after_renew, after_serve, after_control, are_all_back, begun, can_fetch, can_post, is_idle, looks_settled, word_put};
 
 use crate::registers::{Registers, Side};
 use limits::is_ring_length;
@@ -311,16 +311,16 @@ impl QueueMachine {
     }
 
     /// Makes a step of the handshake. Returns the control value that was stored or loaded.
-    pub(crate) fn shake(&mut self, step: ControlStep) -> u8
+    pub(crate) fn control_step(&mut self, step: ControlStep) -> u8
         ensures control { result ≡ control_value self.old.handshake step }
-        ensures moved { self.new ≡ after_shake self.old step }
+        ensures moved { self.new ≡ after_control self.old step }
     {
         let value = self.handshake.control_value(step);
         if self.enables(step) {
             self.serve = 0;
             self.known = 0;
         }
-        self.handshake = self.handshake.shaken(step);
+        self.handshake = self.handshake.after_control_step(step);
         value
     }
 

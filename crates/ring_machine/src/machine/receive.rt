@@ -95,14 +95,14 @@ impl RxMachine {
         Ok(Note::Taken(Some(TakenSegment { buffer, len, eop })))
     }
 
-    fn shake(&mut self, control: ControlStep) -> Note
+    fn control_step(&mut self, control: ControlStep) -> Note
         ensures told { Ok result ≡ rx_told self.old (step.Control control) }
         ensures moved { self.new ≡ rx_moved self.old (step.Control control) }
     {
         if self.queue.enables(control) {
             self.still = false;
         }
-        Note::Control(self.queue.shake(control))
+        Note::Control(self.queue.control_step(control))
     }
 
     fn reclaim(&mut self) -> Result<Note, MachineError>
@@ -163,7 +163,10 @@ impl RxMachine {
             RxStep::Store(_, _) => self.queue.is_holding(),
             RxStep::Take => handshake.driver.is_live() && !self.queue.are_all_back(),
             RxStep::Head => self.queue.is_idle(),
-            RxStep::Control(control) => handshake.may_shake(*control, self.queue.is_settled()),
+            RxStep::Control(control) => handshake.may_control_step(
+                *control,
+                self.queue.is_settled(),
+            ),
             RxStep::Reclaim => handshake.driver.is_stopped() && !self.queue.are_all_back(),
             RxStep::StoreQuiet => self.queue.is_idle() && self.queue.is_whole(),
             RxStep::LoadQuiet => true,
@@ -186,7 +189,7 @@ impl RxMachine {
             RxStep::Store(len, eop) => self.store(len.bytes(), *eop),
             RxStep::Take => self.take(),
             RxStep::Head => Ok(Note::Head(self.queue.store_head())),
-            RxStep::Control(control) => Ok(self.shake(*control)),
+            RxStep::Control(control) => Ok(self.control_step(*control)),
             RxStep::Reclaim => self.reclaim(),
             RxStep::StoreQuiet => Ok(self.store_quiet()),
             RxStep::LoadQuiet => Ok(Note::Quiet(self.quiet)),
@@ -239,7 +242,7 @@ impl RxMachine {
             RxStep::Store(_, _) => needs(queue.is_holding(), Obstacle::NotHolding),
             RxStep::Take => unless(driver.is_live(), Obstacle::NotLive, queue.out_obstacle()),
             RxStep::Head => queue.idle_obstacle(None),
-            RxStep::Control(control) => queue.shake_obstacle(*control, None),
+            RxStep::Control(control) => queue.control_obstacle(*control, None),
             RxStep::Reclaim => unless(
                 driver.is_stopped(),
                 Obstacle::NotStopped,

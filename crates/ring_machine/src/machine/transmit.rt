@@ -98,7 +98,7 @@ impl TxMachine {
             TxStep::LoadReport => handshake.driver.is_live() && self.oldest_report().is_some(),
             TxStep::Clean => handshake.driver.is_live() && self.queue.next() != self.rep,
             TxStep::Control(control) => {
-                handshake.may_shake(*control, self.queue.is_settled() && !self.owed)
+                handshake.may_control_step(*control, self.queue.is_settled() && !self.owed)
             }
             TxStep::Reclaim => handshake.driver.is_stopped() && !self.queue.are_all_back(),
             TxStep::ClearHead => handshake.driver.is_stopped() && self.queue.are_all_back(),
@@ -209,14 +209,14 @@ impl TxMachine {
         }
     }
 
-    fn shake(&mut self, control: ControlStep) -> Note
+    fn control_step(&mut self, control: ControlStep) -> Note
         ensures told { Ok result ≡ tx_told self.old (step.Control control) }
         ensures moved { self.new ≡ tx_moved self.old (step.Control control) }
     {
         if self.queue.enables(control) {
             self.owed = false;
         }
-        Note::Control(self.queue.shake(control))
+        Note::Control(self.queue.control_step(control))
     }
 
     fn clear_head(&mut self) -> Note
@@ -270,7 +270,7 @@ impl TxMachine {
             TxStep::Report => Ok(self.report()),
             TxStep::LoadReport => Ok(self.load_report()),
             TxStep::Clean | TxStep::Reclaim => self.take_out(),
-            TxStep::Control(control) => Ok(self.shake(*control)),
+            TxStep::Control(control) => Ok(self.control_step(*control)),
             TxStep::ClearHead => Ok(self.clear_head()),
             TxStep::ClearTail => Ok(self.clear_tail()),
             TxStep::ClearReport => Ok(self.clear_report()),
@@ -338,7 +338,7 @@ impl TxMachine {
                 let cleaned = needs(queue.next() != self.rep, Obstacle::NotReported);
                 unless(driver.is_live(), Obstacle::NotLive, cleaned)
             }
-            TxStep::Control(control) => queue.shake_obstacle(*control, reported),
+            TxStep::Control(control) => queue.control_obstacle(*control, reported),
             TxStep::Reclaim => unless(
                 driver.is_stopped(),
                 Obstacle::NotStopped,

@@ -3,7 +3,7 @@ use Rattle.std.proofs.Common.{◌≡◌, ◌⊎◌, inl, inr, ⊎_elim, ℕ, Boo
 use Rattle.std.proofs.lemmas.Bool.{cases_Bool, both_ways, and_parts, and_from, or_cases, or_left, or_right, not_from_false}
 use Rattle.ring_model.specs.declared.handshake.Handshake.{Handshake}
 use Rattle.ring_model.specs.declared.steps.ControlStep.{ControlStep}
-use Rattle.ring_model.specs.shared.Handshakes.{is_ended, is_open, is_serving, has_ended, may_shake, shaken, enables}
+use Rattle.ring_model.specs.shared.Handshakes.{is_ended, is_open, is_serving, has_ended, may_control_step, after_control_step, enables}
 use Rattle.ring_model.specs.declared.steps.RxStep.{RxStep}
 use Rattle.ring_model.specs.declared.steps.RxStep.TheVariants as rx
 use Rattle.ring_model.specs.receive.Ring.{RxRing, due}
@@ -11,7 +11,7 @@ use Rattle.ring_model.specs.shared.Segments.{Segment, ends_segment}
 use Rattle.ring_model.specs.receive.Steps.{rx_can, rx_changed, rx_settled, took}
 use Rattle.ring_model.specs.receive.Laws.{rx_quiesced}
 use Rattle.ring_model.proofs.shared.Stepping.{unended}
-use Rattle.ring_model.proofs.shared.Fixed.{ended-shake, ended-enables, serving-shake, serving-enables}
+use Rattle.ring_model.proofs.shared.Fixed.{ended-control_step, ended-enables, serving-control_step, serving-enables}
 use Rattle.ring_model.specs.kept.Receive.{IsRxKept}
 
 abbrev pub quiesced : Handshake → Bool → Bool
@@ -45,13 +45,13 @@ module _ {Payload : Type 0} (n : ℕ) (r : RxRing Payload) (k : IsRxKept Payload
   still_stays enabling none e = and_from (not enabling) r.still (not_from_false enabling none) e
 
   -- the handshake leaves over what was over
-  pub quiesced-shake : (c : ControlStep) → may_shake r.handshake c (rx_settled r) ≡ true → rx_quiesced r ≡ true → quiesced (shaken r.handshake c) (not (enables r.handshake c) && r.still) ≡ true
-  quiesced-shake c may e = ⊎_elim
-      (λ a. quiesced-ended (shaken r.handshake c) (not (enables r.handshake c) && r.still) (ended-shake n ends_segment r.queue k.queue c (rx_settled r) may a))
+  pub quiesced-control_step : (c : ControlStep) → may_control_step r.handshake c (rx_settled r) ≡ true → rx_quiesced r ≡ true → quiesced (after_control_step r.handshake c) (not (enables r.handshake c) && r.still) ≡ true
+  quiesced-control_step c may e = ⊎_elim
+      (λ a. quiesced-ended (after_control_step r.handshake c) (not (enables r.handshake c) && r.still) (ended-control_step n ends_segment r.queue k.queue c (rx_settled r) may a))
       (λ b. ⊎_elim
-      (λ s. quiesced-quiet (shaken r.handshake c) (not (enables r.handshake c) && r.still) s.0 (still_stays (enables r.handshake c) s.1 b.1))
-      (λ f. quiesced-ended (shaken r.handshake c) (not (enables r.handshake c) && r.still) f)
-      (serving-shake n ends_segment r.queue k.queue c (rx_settled r) may b.0))
+      (λ s. quiesced-quiet (after_control_step r.handshake c) (not (enables r.handshake c) && r.still) s.0 (still_stays (enables r.handshake c) s.1 b.1))
+      (λ f. quiesced-ended (after_control_step r.handshake c) (not (enables r.handshake c) && r.still) f)
+      (serving-control_step n ends_segment r.queue k.queue c (rx_settled r) may b.0))
       (quiesced-parts r.handshake r.still e)
 
   -- a controller that is over answers no enabling, so that it said that it is quiet stays

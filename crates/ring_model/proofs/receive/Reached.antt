@@ -7,7 +7,7 @@ use Rattle.ring_model.specs.declared.states.DriverState.TheVariants.{Cleared, Ta
 use Rattle.ring_model.specs.declared.steps.RxStep.{RxStep}
 use Rattle.ring_model.specs.declared.steps.RxStep.TheVariants as rx
 use Rattle.ring_model.specs.shared.Handshakes.{is_live, is_serving}
-use Rattle.ring_model.specs.shared.QueueSteps.{Post, Publish, Look, Fetch, Complete, Head, Reap, Shake, Reclaim, ClearHead, ClearTail, Renew}
+use Rattle.ring_model.specs.shared.QueueSteps.{Post, Publish, Look, Fetch, Complete, Head, Reap, Controls, Reclaim, ClearHead, ClearTail, Renew}
 use Rattle.ring_model.specs.shared.Queue.{posted_count, completed_count, reaped_count, may}
 use Rattle.ring_model.specs.receive.Ring.{RxRing, rx_opening, due, is_whole, next_segment}
 use Rattle.ring_model.specs.shared.Segments.{Segment}
@@ -19,7 +19,7 @@ use Rattle.ring_model.proofs.shared.Reached.{ordered, concluded, lawful}
 use Rattle.ring_model.proofs.shared.Reaching.{kept-reached, later-all}
 use Rattle.ring_model.specs.shared.Laws.{IsOrdered}
 use Rattle.ring_model.specs.kept.Receive.{IsRxKept}
-use Rattle.ring_model.proofs.receive.Quiesced.{quiesced-parts, quiesced-quiet, quiesced-close, quiesced-shake, held-unover}
+use Rattle.ring_model.proofs.receive.Quiesced.{quiesced-parts, quiesced-quiet, quiesced-close, quiesced-control_step, held-unover}
 use Rattle.ring_model.proofs.receive.Stepping.{rx_kept-opening, rx_kept-changed, rx_ledger}
 
 module _ {Payload : Type 0} where
@@ -52,7 +52,7 @@ module _ {Payload : Type 0} where
   later-changed n r (rx.Store x eop) k e = later-by r.queue (rx_quiesced r) (rx_quiesced r) (Complete (next_segment r x eop)) e (held-unover n r k e)
   later-changed n r rx.Take k e = let t = and_parts (is_live r.handshake.driver) (nat_lt (reaped_count r.queue) (posted_count r.queue)) e in later-took n r k (due r) refl t.0
   later-changed n r rx.Head k e = later-by r.queue (rx_quiesced r) (rx_quiesced r) Head e (λ f. f)
-  later-changed n r (rx.Control c) k e = later-by r.queue (rx_quiesced r) (rx_quiesced (rx_changed r (rx.Control c))) (Shake c (rx_settled r)) e (quiesced-shake n r k c e)
+  later-changed n r (rx.Control c) k e = later-by r.queue (rx_quiesced r) (rx_quiesced (rx_changed r (rx.Control c))) (Controls c (rx_settled r)) e (quiesced-control_step n r k c e)
   later-changed n r rx.Reclaim k e = later-by r.queue (rx_quiesced r) (rx_quiesced r) Reclaim e (λ f. f)
   later-changed n r rx.StoreQuiet k e = let t = and_parts (is_serving r.handshake.controller && not r.held) (is_whole r) e in let u = and_parts (is_serving r.handshake.controller) (not r.held) t.0 in
       inr (same-lists r.queue r.queue (rx_quiesced r) (rx_quiesced (rx_changed r rx.StoreQuiet)) refl refl (λ f. f) (λ f. quiesced-quiet r.handshake true u.0 refl) (λ f. f))

@@ -9,9 +9,9 @@ use Rattle.ring_model.specs.declared.steps.ControlStep.{ControlStep}
 use Rattle.ring_model.specs.declared.steps.ControlStep.TheVariants.{AskEnable, LookAsked, Answer, LookAnswered, AskDisable}
 use Rattle.ring_model.specs.declared.steps.RxStep.{RxStep}
 use Rattle.ring_model.specs.declared.steps.RxStep.TheVariants as rx
-use Rattle.ring_model.specs.shared.Handshakes.{is_live, is_serving, can_enable, enable, disable, shaken, enables}
+use Rattle.ring_model.specs.shared.Handshakes.{is_live, is_serving, can_enable, enable, disable, after_control_step, enables}
 use Rattle.ring_model.specs.shared.Lists.{IsBeginning}
-use Rattle.ring_model.specs.shared.QueueSteps.{QueueStep, Post, Publish, Look, Fetch, Complete, Head, Reap, Shake, Reclaim, ClearHead, ClearTail, Renew}
+use Rattle.ring_model.specs.shared.QueueSteps.{QueueStep, Post, Publish, Look, Fetch, Complete, Head, Reap, Controls, Reclaim, ClearHead, ClearTail, Renew}
 use Rattle.ring_model.specs.shared.Queue.{posted_count, completed_count, reaped_count, may, by}
 use Rattle.ring_model.specs.receive.Ring.{RxLedger, RxRing, rx_opening, due, is_whole, next_segment}
 use Rattle.ring_model.specs.shared.Segments.{Segment, ends_segment, number_of_segment}
@@ -22,7 +22,7 @@ use Rattle.ring_model.specs.kept.Queues.{IsKept}
 use Rattle.ring_model.proofs.shared.Beginnings.{beginning-append, beginning-snoc, numbers-snoc, slice_get-snoc}
 use Rattle.ring_model.proofs.shared.Stepping.{kept-opening, kept-by, held_below}
 use Rattle.ring_model.specs.kept.Receive.{IsRxKept}
-use Rattle.ring_model.proofs.receive.Quiesced.{quiesced-quiet, quiesced-close, quiesced-shake, quiesced-still}
+use Rattle.ring_model.proofs.receive.Quiesced.{quiesced-quiet, quiesced-close, quiesced-control_step, quiesced-still}
 
 pub rx_kept-opening : {Payload : Type 0} (n : ℕ) (enabled : Bool) → 1 < n → IsRxKept Payload n (rx_opening n enabled)
 rx_kept-opening n enabled h = record {
@@ -89,23 +89,23 @@ module _ {Payload : Type 0} (n : ℕ) (r : RxRing Payload) (k : IsRxKept Payload
   answered_still true serving e = absurd (false≢true e)
   answered_still false serving e = absurd (false≢true serving)
 
-  finished-shake : (c : ControlStep) → is_serving (shaken r.handshake c).controller ≡ true → (not (enables r.handshake c) && r.still) ≡ true → is_whole r ≡ true
-  finished-shake AskEnable serving e = k.finished serving e
-  finished-shake LookAsked serving e = k.finished serving e
-  finished-shake Answer serving e = answered_still (can_enable r.handshake) serving e
-  finished-shake LookAnswered serving e = k.finished serving e
-  finished-shake AskDisable serving e = k.finished serving e
+  finished-control_step : (c : ControlStep) → is_serving (after_control_step r.handshake c).controller ≡ true → (not (enables r.handshake c) && r.still) ≡ true → is_whole r ≡ true
+  finished-control_step AskEnable serving e = k.finished serving e
+  finished-control_step LookAsked serving e = k.finished serving e
+  finished-control_step Answer serving e = answered_still (can_enable r.handshake) serving e
+  finished-control_step LookAnswered serving e = k.finished serving e
+  finished-control_step AskDisable serving e = k.finished serving e
 
-  rx_kept-control : (c : ControlStep) → may r.queue (Shake c (rx_settled r)) ≡ true → IsRxKept Payload n (rx_changed r (rx.Control c))
+  rx_kept-control : (c : ControlStep) → may r.queue (Controls c (rx_settled r)) ≡ true → IsRxKept Payload n (rx_changed r (rx.Control c))
   rx_kept-control c e = record {
-    queue = kept-by n ends_segment r.queue k.queue (Shake c (rx_settled r)) (λ s. s) e;
+    queue = kept-by n ends_segment r.queue k.queue (Controls c (rx_settled r)) (λ s. s) e;
     taken = k.taken;
     stored = k.stored;
     past = k.past;
     at_rest = λ f. let t = and_parts (not (enables r.handshake c)) r.still f in k.at_rest t.1;
-    finished = finished-shake c;
+    finished = finished-control_step c;
     bit = k.bit;
-    quiet = λ f. quiesced-shake n r k c e (k.quiet f);
+    quiet = λ f. quiesced-control_step n r k c e (k.quiet f);
     said = λ f. quiesced-still n r k c (k.quiet f) (k.said f);
   }
 

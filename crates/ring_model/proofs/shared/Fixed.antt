@@ -4,27 +4,27 @@ use Rattle.std.specs.Prelude.{◌==◌, nat_lt}
 use Rattle.std.proofs.lemmas.Bool.{cases_Bool, both_ways, and_parts, or_cases, not_from_false, eqb-true}
 use Rattle.ring_model.specs.declared.steps.ControlStep.{ControlStep}
 use Rattle.ring_model.specs.declared.steps.ControlStep.TheVariants.{AskEnable, LookAsked, Answer, LookAnswered, AskDisable}
-use Rattle.ring_model.specs.shared.Handshakes.{is_open, is_live, is_answered, is_serving, can_enable, enable, can_disable, disable, may_shake, shaken, enables, has_ended}
-use Rattle.ring_model.specs.shared.QueueSteps.{QueueStep, Post, Publish, Look, Fetch, Complete, Head, Reap, Shake, Reclaim, ClearHead, ClearTail, Renew}
+use Rattle.ring_model.specs.shared.Handshakes.{is_open, is_live, is_answered, is_serving, can_enable, enable, can_disable, disable, may_control_step, after_control_step, enables, has_ended}
+use Rattle.ring_model.specs.shared.QueueSteps.{QueueStep, Post, Publish, Look, Fetch, Complete, Head, Reap, Controls, Reclaim, ClearHead, ClearTail, Renew}
 use Rattle.ring_model.specs.shared.Queue.{Ledger, Queue, posted_count, completed_count, reaped_count, may, by}
 use Rattle.ring_model.specs.shared.Laws.{IsGrown, SameEpoch, Later}
 use Rattle.ring_model.specs.kept.Queues.{IsKept}
-use Rattle.ring_model.proofs.shared.Shakes.{new_open, on_open, live_unanswered, open_unanswered, shakes-enable, shakes-disable, learned_open, learned_answered}
+use Rattle.ring_model.proofs.shared.ControlSteps.{new_open, on_open, live_unanswered, open_unanswered, control_steps-enable, control_steps-disable, learned_open, learned_answered}
 use Rattle.ring_model.proofs.shared.Beginnings.{beginning-refl, beginning-trans, beginning-append}
-use Rattle.ring_model.proofs.shared.Stepping.{shook, unended, open_unended}
+use Rattle.ring_model.proofs.shared.Stepping.{control_fits_of, unended, open_unended}
 
 -- an epoch that has ended stays so, whatever the handshake does
 module _ {Posted Completed Reaped : Type 0} (n : ℕ) (ends : Completed → Bool) (q : Queue Posted Completed Reaped) (k : IsKept n ends q) where
   enable_open : can_enable q.handshake ≡ true → is_open q.handshake.driver ≡ true
   enable_open e = let h = q.handshake in let t = and_parts (h.seen == 1) (not (is_serving h.controller)) e in
-      let s = shakes-enable h.driver h.controller h.control h.seen (eqb-true h.seen 1 t.0) (shook n ends q k) in s.1
+      let s = control_steps-enable h.driver h.controller h.control h.seen (eqb-true h.seen 1 t.0) (control_fits_of n ends q k) in s.1
 
   disable_closed : can_disable q.handshake ≡ true → is_open q.handshake.driver ≡ false
   disable_closed e = let h = q.handshake in let t = and_parts (h.seen == 3) (is_serving h.controller) e in
-      let s = shakes-disable h.driver h.controller h.control h.seen (eqb-true h.seen 3 t.0) t.1 (shook n ends q k) in s.1
+      let s = control_steps-disable h.driver h.controller h.control h.seen (eqb-true h.seen 3 t.0) t.1 (control_fits_of n ends q k) in s.1
 
   -- an answer enables an open queue, or ends one that the driver left
-  answers : (settled : Bool) → may_shake q.handshake Answer settled ≡ true → (can_enable q.handshake ≡ true) ⊎ (can_disable q.handshake ≡ true)
+  answers : (settled : Bool) → may_control_step q.handshake Answer settled ≡ true → (can_enable q.handshake ≡ true) ⊎ (can_disable q.handshake ≡ true)
   answers settled e = ⊎_elim (λ a. inl a) (λ b. let t = and_parts (can_disable q.handshake) settled b in inr t.0) (or_cases (can_enable q.handshake) (can_disable q.handshake && settled) e)
 
   -- the answer to a disabling, whichever way it is computed
@@ -40,13 +40,13 @@ module _ {Posted Completed Reaped : Type 0} (n : ℕ) (ends : Completed → Bool
       never true = refl
       never false = refl
 
-  pub ended-shake : (c : ControlStep) (settled : Bool) → may_shake q.handshake c settled ≡ true → has_ended q.handshake ≡ true → has_ended (shaken q.handshake c) ≡ true
-  ended-shake AskEnable settled e quiesced = absurd (open_unended q.handshake (new_open q.handshake.driver e) quiesced)
-  ended-shake LookAsked settled e quiesced = quiesced
-  ended-shake Answer settled e quiesced = ⊎_elim (λ a. absurd (open_unended q.handshake (enable_open a) quiesced))
+  pub ended-control_step : (c : ControlStep) (settled : Bool) → may_control_step q.handshake c settled ≡ true → has_ended q.handshake ≡ true → has_ended (after_control_step q.handshake c) ≡ true
+  ended-control_step AskEnable settled e quiesced = absurd (open_unended q.handshake (new_open q.handshake.driver e) quiesced)
+  ended-control_step LookAsked settled e quiesced = quiesced
+  ended-control_step Answer settled e quiesced = ⊎_elim (λ a. absurd (open_unended q.handshake (enable_open a) quiesced))
       (λ b. let t = and_parts (q.handshake.seen == 3) (is_serving q.handshake.controller) b in absurd (unended q.handshake t.1 quiesced)) (answers settled e)
-  ended-shake LookAnswered settled e quiesced = rw (learned_open q.handshake.driver q.handshake.control) quiesced
-  ended-shake AskDisable settled e quiesced = absurd (open_unended q.handshake (on_open q.handshake.driver e) quiesced)
+  ended-control_step LookAnswered settled e quiesced = rw (learned_open q.handshake.driver q.handshake.control) quiesced
+  ended-control_step AskDisable settled e quiesced = absurd (open_unended q.handshake (on_open q.handshake.driver e) quiesced)
 
   -- one that has ended answers no enabling
   pub ended-enables : (c : ControlStep) → has_ended q.handshake ≡ true → enables q.handshake c ≡ false
@@ -57,14 +57,14 @@ module _ {Posted Completed Reaped : Type 0} (n : ℕ) (ends : Completed → Bool
   ended-enables AskDisable quiesced = refl
 
   -- a controller that serves goes on serving, or has ended
-  pub serving-shake : (c : ControlStep) (settled : Bool) → may_shake q.handshake c settled ≡ true → is_serving q.handshake.controller ≡ true
-      → ((is_serving (shaken q.handshake c).controller ≡ true) × (enables q.handshake c ≡ false)) ⊎ (has_ended (shaken q.handshake c) ≡ true)
-  serving-shake AskEnable settled e serving = inl (serving, refl)
-  serving-shake LookAsked settled e serving = inl (serving, refl)
-  serving-shake Answer settled e serving = let no = serving_enables serving in
+  pub serving-control_step : (c : ControlStep) (settled : Bool) → may_control_step q.handshake c settled ≡ true → is_serving q.handshake.controller ≡ true
+      → ((is_serving (after_control_step q.handshake c).controller ≡ true) × (enables q.handshake c ≡ false)) ⊎ (has_ended (after_control_step q.handshake c) ≡ true)
+  serving-control_step AskEnable settled e serving = inl (serving, refl)
+  serving-control_step LookAsked settled e serving = inl (serving, refl)
+  serving-control_step Answer settled e serving = let no = serving_enables serving in
       inr (ended_now (can_enable q.handshake) no (⊎_elim (λ a. absurd (both_ways (can_enable q.handshake) no a)) disable_closed (answers settled e)))
-  serving-shake LookAnswered settled e serving = inl (serving, refl)
-  serving-shake AskDisable settled e serving = inl (serving, refl)
+  serving-control_step LookAnswered settled e serving = inl (serving, refl)
+  serving-control_step AskDisable settled e serving = inl (serving, refl)
 
   -- and it answers no enabling
   pub serving-enables : (c : ControlStep) → is_serving q.handshake.controller ≡ true → enables q.handshake c ≡ false
@@ -169,16 +169,16 @@ module _ {Posted Completed Reaped : Type 0} where
     answered_driver true = refl
     answered_driver false = refl
 
-    same-shake : (c : ControlStep) (settled : Bool) → may_shake q.handshake c settled ≡ true → (quiesced ≡ true → still_quiesced ≡ true) → SameEpoch q quiesced (by q (Shake c settled)) still_quiesced
-    same-shake AskEnable settled e stays = let h = q.handshake in let opens = new_open h.driver e in
-        same-lists q (by q (Shake AskEnable settled)) quiesced still_quiesced refl refl (λ f. absurd (both_ways (is_open h.driver) f opens)) stays (λ f. absurd (both_ways (is_answered h.driver) (open_unanswered h.driver opens) f))
-    same-shake LookAsked settled e stays = same-lists q (by q (Shake LookAsked settled)) quiesced still_quiesced refl refl (λ f. f) stays (λ f. f)
-    same-shake Answer settled e stays = let d = answered_driver (can_enable q.handshake) in
-        same-lists q (by q (Shake Answer settled)) quiesced still_quiesced refl refl (λ f. ap is_open d ∙ f) stays (λ f. ap is_answered d ∙ f)
-    same-shake LookAnswered settled e stays = let h = q.handshake in
-        same-lists q (by q (Shake LookAnswered settled)) quiesced still_quiesced refl refl (λ f. learned_open h.driver h.control ∙ f) stays (learned_answered h.driver h.control)
-    same-shake AskDisable settled e stays = let h = q.handshake in
-        same-lists q (by q (Shake AskDisable settled)) quiesced still_quiesced refl refl (λ f. refl) stays (λ f. absurd (both_ways (is_answered h.driver) (open_unanswered h.driver (on_open h.driver e)) f))
+    same-control_step : (c : ControlStep) (settled : Bool) → may_control_step q.handshake c settled ≡ true → (quiesced ≡ true → still_quiesced ≡ true) → SameEpoch q quiesced (by q (Controls c settled)) still_quiesced
+    same-control_step AskEnable settled e stays = let h = q.handshake in let opens = new_open h.driver e in
+        same-lists q (by q (Controls AskEnable settled)) quiesced still_quiesced refl refl (λ f. absurd (both_ways (is_open h.driver) f opens)) stays (λ f. absurd (both_ways (is_answered h.driver) (open_unanswered h.driver opens) f))
+    same-control_step LookAsked settled e stays = same-lists q (by q (Controls LookAsked settled)) quiesced still_quiesced refl refl (λ f. f) stays (λ f. f)
+    same-control_step Answer settled e stays = let d = answered_driver (can_enable q.handshake) in
+        same-lists q (by q (Controls Answer settled)) quiesced still_quiesced refl refl (λ f. ap is_open d ∙ f) stays (λ f. ap is_answered d ∙ f)
+    same-control_step LookAnswered settled e stays = let h = q.handshake in
+        same-lists q (by q (Controls LookAnswered settled)) quiesced still_quiesced refl refl (λ f. learned_open h.driver h.control ∙ f) stays (learned_answered h.driver h.control)
+    same-control_step AskDisable settled e stays = let h = q.handshake in
+        same-lists q (by q (Controls AskDisable settled)) quiesced still_quiesced refl refl (λ f. refl) stays (λ f. absurd (both_ways (is_answered h.driver) (open_unanswered h.driver (on_open h.driver e)) f))
 
     pub later-by : (s : QueueStep Posted Completed Reaped) → may q s ≡ true → Stays s quiesced still_quiesced → Later q quiesced (by q s) still_quiesced
     later-by (Post x) e stays = inr (same-post x e stays)
@@ -188,7 +188,7 @@ module _ {Posted Completed Reaped : Type 0} where
     later-by (Complete x) e none = inr (same-complete x none)
     later-by Head e stays = inr (same-lists q (by q Head) quiesced still_quiesced refl refl (λ f. f) stays (λ f. f))
     later-by (Reap x) e stays = inr (same-reap x e stays)
-    later-by (Shake c settled) e stays = inr (same-shake c settled e stays)
+    later-by (Controls c settled) e stays = inr (same-control_step c settled e stays)
     later-by Reclaim e stays = inr (same-lists q (by q Reclaim) quiesced still_quiesced refl refl (λ f. f) stays (λ f. f))
     later-by ClearHead e stays = inr (same-lists q (by q ClearHead) quiesced still_quiesced refl refl (λ f. refl) stays (λ f. refl))
     later-by ClearTail e stays = inr (same-lists q (by q ClearTail) quiesced still_quiesced refl refl (λ f. refl) stays (λ f. refl))

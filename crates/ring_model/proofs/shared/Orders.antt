@@ -5,7 +5,7 @@ use Rattle.ring_model.specs.declared.handshake.Handshake.{Handshake}
 use Rattle.ring_model.specs.shared.Handshakes.{is_open, is_live, is_answered, is_serving, is_stopped, is_tailed}
 use Rattle.ring_model.specs.shared.Handshakes.{is_emptied}
 use Rattle.ring_model.specs.kept.Queues.{InOrder, InState}
-use Rattle.ring_model.proofs.shared.Shakes.{open_unanswered, live_unanswered, unanswered_full, stopped_full, stopped_answered, tailed_emptied}
+use Rattle.ring_model.proofs.shared.ControlSteps.{open_unanswered, live_unanswered, unanswered_full, stopped_full, stopped_answered, tailed_emptied}
 
 -- a state of another kind claims nothing
 full : {P : Type 0} (h : Handshake) → is_emptied h.driver ≡ false → is_emptied h.driver ≡ true → P
@@ -140,9 +140,9 @@ module _ (n posted completed reaped published known reclaimed : ℕ) (held : Boo
   }
 
   -- a handshake whose controller serves where it served, and whose driver has not gone back
-  pub order-shake : (g : Handshake) → is_serving g.controller ≡ is_serving h.controller → (is_answered g.driver ≡ false → is_answered h.driver ≡ false) → (is_open g.driver ≡ true → is_open h.driver ≡ true)
+  pub order-control_step : (g : Handshake) → is_serving g.controller ≡ is_serving h.controller → (is_answered g.driver ≡ false → is_answered h.driver ≡ false) → (is_open g.driver ≡ true → is_open h.driver ≡ true)
       → (is_emptied g.driver ≡ true → reaped + reclaimed ≡ posted) → (is_tailed g.driver ≡ true → published ≡ 0) → InOrder n posted completed reaped published known reclaimed held g
-  order-shake g serves unanswered opens back cleared = record {
+  order-control_step g serves unanswered opens back cleared = record {
     count = o.count;
     sight = record {
       published_posted = o.published_posted;

@@ -5,7 +5,7 @@ use Rattle.ring_model.specs.shared.Queue.{Ledger, Queue}
 use Rattle.ring_model.specs.shared.Lawful.{IsLawfulQueue}
 use Rattle.ring_model.specs.shared.Laws.{IsConcluded, IsOrdered}
 use Rattle.ring_model.specs.kept.Queues.{IsKept}
-use Rattle.ring_model.proofs.shared.Shakes.{ended_full}
+use Rattle.ring_model.proofs.shared.ControlSteps.{ended_full}
 use Rattle.ring_model.proofs.shared.Stepping.{answered_has_ended}
 
 module _ {Posted Completed Reaped : Type 0} (n : ℕ) {ends : Completed → Bool} (q : Queue Posted Completed Reaped) (k : IsKept n ends q) where
@@ -33,7 +33,7 @@ module _ {Posted Completed Reaped : Type 0} (n : ℕ) {ends : Completed → Bool
   }
 
   pub concluded : IsConcluded q
-  concluded = let h = q.handshake in let s = k.shaken in record {
+  concluded = let h = q.handshake in let s = k.handshake_fits in record {
     ended = answered_has_ended n ends q k;
-    head = λ e l. let t = ended_full h.driver h.controller h.control h.seen e l s.shakes in k.told e t.0 t.1;
+    head = λ e l. let t = ended_full h.driver h.controller h.control h.seen e l s.control_fits in k.told e t.0 t.1;
   }

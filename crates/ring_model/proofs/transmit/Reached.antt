@@ -8,14 +8,14 @@ use Rattle.ring_model.specs.declared.steps.TxStep.{TxStep}
 use Rattle.ring_model.specs.declared.steps.TxStep.TheVariants as tx
 use Rattle.ring_model.specs.shared.Lists.{IsBeginning}
 use Rattle.ring_model.specs.shared.Handshakes.{is_ended, is_live, is_open, is_serving, has_ended}
-use Rattle.ring_model.specs.shared.QueueSteps.{Post, Publish, Look, Fetch, Complete, Head, Reap, Shake, Reclaim, ClearHead, ClearTail, Renew}
+use Rattle.ring_model.specs.shared.QueueSteps.{Post, Publish, Look, Fetch, Complete, Head, Reap, Controls, Reclaim, ClearHead, ClearTail, Renew}
 use Rattle.ring_model.specs.shared.Queue.{posted_count, reaped_count, may, by}
 use Rattle.ring_model.specs.transmit.Ring.{Posting, TxRing, tx_opening, are_whole, ends_posting, next_posting, next_sent, number_of_posting}
 use Rattle.ring_model.specs.transmit.Steps.{IsTxReachable, by_head, oldest_report, cleaned_one, loaded_report, sent_one, tx_after_all, tx_can, tx_changed, tx_cleared, tx_settled}
 use Rattle.ring_model.specs.transmit.Lawful.{IsLawfulTx, IsLawfulTxLedger}
 use Rattle.ring_model.specs.transmit.Laws.{IsTxConcluded, IsTxOrdered, TxLater, tx_quiesced}
 use Rattle.ring_model.proofs.shared.Stepping.{unended}
-use Rattle.ring_model.proofs.shared.Fixed.{ended-shake, later-refl, later-trans, later-by}
+use Rattle.ring_model.proofs.shared.Fixed.{ended-control_step, later-refl, later-trans, later-by}
 use Rattle.ring_model.proofs.shared.Reached.{ordered, concluded, lawful}
 use Rattle.ring_model.proofs.shared.Reaching.{kept-reached, later-all}
 use Rattle.ring_model.specs.kept.Transmit.{IsTxKept}
@@ -107,7 +107,7 @@ module _ {Payload : Type 0} where
   later-changed n r tx.Report k e = later-refl r.queue (tx_quiesced r)
   later-changed n r tx.LoadReport k e = later-loaded n r k (oldest_report r)
   later-changed n r tx.Clean k e = later-cleaned n r k (next_sent r) e
-  later-changed n r (tx.Control c) k e = later-by r.queue (tx_quiesced r) (tx_quiesced (tx_changed r (tx.Control c))) (Shake c (tx_settled r)) e (ended-shake n ends_posting r.queue k.queue c (tx_settled r) e)
+  later-changed n r (tx.Control c) k e = later-by r.queue (tx_quiesced r) (tx_quiesced (tx_changed r (tx.Control c))) (Controls c (tx_settled r)) e (ended-control_step n ends_posting r.queue k.queue c (tx_settled r) e)
   later-changed n r tx.Reclaim k e = later-by r.queue (tx_quiesced r) (tx_quiesced r) Reclaim e (λ f. f)
   later-changed n r tx.ClearHead k e = later-by r.queue (tx_quiesced r) (has_ended (by r.queue ClearHead).handshake) ClearHead e (λ f. ended-close n r k (by r.queue ClearHead).handshake refl refl f)
   later-changed n r tx.ClearTail k e = later-cleared n r k (by_head r.completion) e

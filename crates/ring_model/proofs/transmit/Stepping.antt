@@ -9,14 +9,14 @@ use Rattle.ring_model.specs.declared.steps.ControlStep.{ControlStep}
 use Rattle.ring_model.specs.declared.steps.ControlStep.TheVariants.{AskEnable, LookAsked, Answer, LookAnswered, AskDisable}
 use Rattle.ring_model.specs.declared.steps.TxStep.{TxStep}
 use Rattle.ring_model.specs.declared.steps.TxStep.TheVariants as tx
-use Rattle.ring_model.specs.shared.Handshakes.{first_handshake, is_live, is_serving, can_enable, can_disable, shaken, enables}
-use Rattle.ring_model.specs.shared.QueueSteps.{QueueStep, Post, Publish, Look, Fetch, Complete, Head, Reap, Shake, Reclaim, ClearHead, ClearTail, Renew}
+use Rattle.ring_model.specs.shared.Handshakes.{first_handshake, is_live, is_serving, can_enable, can_disable, after_control_step, enables}
+use Rattle.ring_model.specs.shared.QueueSteps.{QueueStep, Post, Publish, Look, Fetch, Complete, Head, Reap, Controls, Reclaim, ClearHead, ClearTail, Renew}
 use Rattle.ring_model.specs.shared.Queue.{posted_count, completed_count, reaped_count, is_settled, may, by}
 use Rattle.ring_model.specs.transmit.Ring.{Posting, TxBeginning, TxLedger, TxRing, tx_opening, are_whole, ends_posting, next_posting, next_sent, number_of_posting}
 use Rattle.ring_model.specs.transmit.Steps.{by_head, asks_report, first_report, oldest_report, tx_settled, sent_one, loaded_report, cleaned_one, tx_renewed, tx_cleared, tx_can, tx_changed}
 use Rattle.ring_model.specs.transmit.Lawful.{IsLawfulTxLedger}
 use Rattle.ring_model.specs.kept.Queues.{IsKept}
-use Rattle.ring_model.proofs.shared.Shakes.{tailed_emptied, emptied_answered}
+use Rattle.ring_model.proofs.shared.ControlSteps.{tailed_emptied, emptied_answered}
 use Rattle.ring_model.proofs.shared.Beginnings.{beginning-append, beginning-snoc, slice_get-snoc}
 use Rattle.ring_model.proofs.shared.Stepping.{kept-opening, kept-by, answered_idle}
 use Rattle.ring_model.specs.kept.Transmit.{InReports, IsTxKept}
@@ -149,20 +149,20 @@ module _ {Payload : Type 0} where
     still_paid true none = refl
     still_paid false none = none
 
-    reports-shake : (c : ControlStep) → tx_can r (tx.Control c) ≡ true
-        → InReports r.ledger.completed (reaped_count r.queue) r.seen_reported r.reported r.held (not (enables r.handshake c) && r.owed) (is_serving (shaken r.handshake c).controller)
-    reports-shake AskEnable e = k.reports
-    reports-shake LookAsked e = k.reports
-    reports-shake Answer e = let none = answer_paid e in
+    reports-control_step : (c : ControlStep) → tx_can r (tx.Control c) ≡ true
+        → InReports r.ledger.completed (reaped_count r.queue) r.seen_reported r.reported r.held (not (enables r.handshake c) && r.owed) (is_serving (after_control_step r.handshake c).controller)
+    reports-control_step AskEnable e = k.reports
+    reports-control_step LookAsked e = k.reports
+    reports-control_step Answer e = let none = answer_paid e in
         reports-answer r.ledger.completed (reaped_count r.queue) r.seen_reported r.reported r.held r.owed (is_serving r.handshake.controller) k.reports
-        (is_serving (shaken r.handshake Answer).controller) (not (enables r.handshake Answer) && r.owed) none (still_paid (can_enable r.handshake) none)
-    reports-shake LookAnswered e = k.reports
-    reports-shake AskDisable e = k.reports
+        (is_serving (after_control_step r.handshake Answer).controller) (not (enables r.handshake Answer) && r.owed) none (still_paid (can_enable r.handshake) none)
+    reports-control_step LookAnswered e = k.reports
+    reports-control_step AskDisable e = k.reports
 
     tx_kept-control : (c : ControlStep) → tx_can r (tx.Control c) ≡ true → IsTxKept Payload n (tx_changed r (tx.Control c))
     tx_kept-control c e = record {
-      queue = kept-by n ends_posting r.queue k.queue (Shake c (tx_settled r)) (λ s. let t = and_parts (is_settled ends_posting r.queue) (not r.owed) s in t.0) e;
-      reports = reports-shake c e;
+      queue = kept-by n ends_posting r.queue k.queue (Controls c (tx_settled r)) (λ s. let t = and_parts (is_settled ends_posting r.queue) (not r.owed) s in t.0) e;
+      reports = reports-control_step c e;
       sent = k.sent;
       cleaned = k.cleaned;
       past = k.past;

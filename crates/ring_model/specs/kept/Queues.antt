@@ -8,8 +8,8 @@ use Rattle.ring_model.specs.shared.Queue.{Queue, posted_count, completed_count, 
 use Rattle.ring_model.specs.shared.Lawful.{IsLawfulMap, window}
 use Rattle.ring_model.specs.shared.Laws.{ControlFits}
 
-pub record IsShaken (h : Handshake) : Type 0 where
-  pub shakes : ControlFits h.driver h.controller h.control h.seen
+pub record HandshakeFits (h : Handshake) : Type 0 where
+  pub control_fits : ControlFits h.driver h.controller h.control h.seen
 
 -- The counts of an epoch's items, in order.
 pub record InCount (n posted completed reaped reclaimed : ℕ) : Type 0 where
@@ -46,7 +46,7 @@ pub record InOrder (n posted completed reaped published known reclaimed : ℕ) (
 pub record IsKept {Posted Completed Reaped : Type 0} (n : ℕ) (ends : Completed → Bool) (q : Queue Posted Completed Reaped) : Type 0 where
   pub size_is : q.size ≡ n
   pub places : 1 < n
-  pub shaken : IsShaken q.handshake
+  pub handshake_fits : HandshakeFits q.handshake
   pub order : InOrder n (posted_count q) (completed_count q) (reaped_count q) q.published q.known q.reclaimed q.held q.handshake
   pub map : IsLawfulMap (window q) q.owners
   pub whole : has_ended q.handshake ≡ true → ends_frame ends true q.ledger.completed ≡ true

@@ -29,7 +29,7 @@ module _ {Payload : Type 0} where
   rx_can r (Store x eop) = may r.queue (queue.Complete (next_segment r x eop))
   rx_can r Take = is_live r.handshake.driver && nat_lt (reaped_count r.queue) (posted_count r.queue)
   rx_can r Head = may r.queue queue.Head
-  rx_can r (Control c) = may r.queue (queue.Shake c (rx_settled r))
+  rx_can r (Control c) = may r.queue (queue.Controls c (rx_settled r))
   rx_can r Reclaim = may r.queue queue.Reclaim
   rx_can r StoreQuiet = is_serving r.handshake.controller && not r.held && is_whole r
   rx_can r LoadQuiet = true
@@ -47,7 +47,7 @@ module _ {Payload : Type 0} where
   rx_changed r (Store x eop) = record r { queue = by r.queue (queue.Complete (next_segment r x eop)) }
   rx_changed r Take = took r (due r)
   rx_changed r Head = record r { queue = by r.queue queue.Head }
-  rx_changed r (Control c) = record r { queue = by r.queue (queue.Shake c (rx_settled r)); still = not (enables r.handshake c) && r.still }
+  rx_changed r (Control c) = record r { queue = by r.queue (queue.Controls c (rx_settled r)); still = not (enables r.handshake c) && r.still }
   rx_changed r Reclaim = record r { queue = by r.queue queue.Reclaim }
   rx_changed r StoreQuiet = record r { quiet = 1; still = true }
   rx_changed r LoadQuiet = r

@@ -7,7 +7,7 @@ use Rattle.ring_model.specs.declared.notes.Note.{Note}
 use Rattle.ring_model.specs.declared.notes.Note.TheVariants as note
 use Rattle.ring_model.specs.declared.states.Owner.TheVariants as owner
 use Rattle.ring_model.specs.rows.Told.{place, tail, head, buffer, control}
-use Rattle.ring_model.specs.shared.Handshakes.{is_answered, has_ended, is_between}
+use Rattle.ring_model.specs.shared.Handshakes.{is_answered, has_ended, is_between_epochs}
 use Rattle.ring_model.specs.shared.Lawful.{holder, window}
 use Rattle.ring_model.specs.shared.Agreement.{wanted_word, wanted_slot, held_buffer}
 use Rattle.ring_model.specs.receive.Agreement.{rx_word_of_item, rx_buffer_of_item}
@@ -152,7 +152,7 @@ pub record RxRows : Type 0 where
   -- At each stage: whether the disabling was seen answered, the queue has ended or is between epochs, and the controller is quiesced.
   pub answered : map (λ (r : RxRing ℕ). is_answered r.handshake.driver) stages ≡ false ∷ false ∷ false ∷ false ∷ false ∷ true ∷ true ∷ true ∷ false ∷ false ∷ false ∷ []
   pub queue_ended : map (λ (r : RxRing ℕ). has_ended r.handshake) stages ≡ false ∷ false ∷ false ∷ false ∷ true ∷ true ∷ true ∷ true ∷ false ∷ false ∷ false ∷ []
-  pub between : map (λ (r : RxRing ℕ). is_between r.handshake) stages ≡ false ∷ false ∷ false ∷ false ∷ false ∷ false ∷ false ∷ false ∷ true ∷ true ∷ false ∷ []
+  pub between : map (λ (r : RxRing ℕ). is_between_epochs r.handshake) stages ≡ false ∷ false ∷ false ∷ false ∷ false ∷ false ∷ false ∷ false ∷ true ∷ true ∷ false ∷ []
   pub quiesced : map rx_quiesced stages ≡ false ∷ false ∷ true ∷ true ∷ true ∷ true ∷ true ∷ true ∷ false ∷ false ∷ false ∷ []
   -- The example: its owners, and the words and buffers of the items that are out. At the end every place is the driver's.
   pub owners : example.owners ≡ owner.Controller ∷ owner.Ring ∷ owner.Ring ∷ owner.Ring ∷ owner.Driver ∷ owner.Ring ∷ owner.Ring ∷ owner.Ring ∷ []

@@ -4,7 +4,7 @@ use Rattle.ring_model.specs.declared.states.Owner.TheVariants.{Driver}
 use Rattle.ring_model.specs.declared.handshake.Handshake.{Handshake}
 use Rattle.ring_model.specs.shared.Lists.{EachItem, slot_at}
 use Rattle.ring_model.specs.shared.Frames.{ends_frame}
-use Rattle.ring_model.specs.shared.Handshakes.{is_between}
+use Rattle.ring_model.specs.shared.Handshakes.{is_between_epochs}
 use Rattle.ring_model.specs.shared.Queue.{Queue, posted_count, completed_count, returned_count, next_head}
 
 -- 1 for true, 0 for false. (A number under an `if` has no type.)
@@ -59,8 +59,8 @@ module _ {Posted Completed Reaped Buffer : Type 0} (ends : Completed → Bool) (
     pub empty : (place : ℕ) → slice_get q.owners place ≡ Some Driver → slot_at w.slots place ≡ None
     pub fill : w.fill ≡ posted_count q % q.size
     pub next : w.next ≡ returned_count q % q.size
-    pub serve : is_between q.handshake ≡ false → w.serve ≡ next_head q
-    pub known : is_between q.handshake ≡ false → w.known ≡ q.known % q.size
+    pub serve : is_between_epochs q.handshake ≡ false → w.serve ≡ next_head q
+    pub known : is_between_epochs q.handshake ≡ false → w.known ≡ q.known % q.size
     pub held : w.held ≡ held_buffer {Reaped = Reaped} word_of_item buffer_of_item q
     pub whole : w.whole ≡ ends_frame ends true q.ledger.completed
     pub handshake : w.handshake ≡ q.handshake

@@ -104,19 +104,19 @@ abbrev pub ask_disable : Handshake → Handshake
 ask_disable h = record h { control = 3; driver = Stopping }
 
 -- C1 to C5. A disabling is answered only if the queue is settled.
-abbrev pub may_shake : Handshake → ControlStep → Bool → Bool
-may_shake h AskEnable settled = is_new h.driver
-may_shake h LookAsked settled = true
-may_shake h Answer settled = can_enable h || (can_disable h && settled)
-may_shake h LookAnswered settled = true
-may_shake h AskDisable settled = is_on h.driver
+abbrev pub may_control_step : Handshake → ControlStep → Bool → Bool
+may_control_step h AskEnable settled = is_new h.driver
+may_control_step h LookAsked settled = true
+may_control_step h Answer settled = can_enable h || (can_disable h && settled)
+may_control_step h LookAnswered settled = true
+may_control_step h AskDisable settled = is_on h.driver
 
-abbrev pub shaken : Handshake → ControlStep → Handshake
-shaken h AskEnable = ask_enable h
-shaken h LookAsked = look_asked h
-shaken h Answer = if can_enable h then enable h else disable h
-shaken h LookAnswered = look_answered h
-shaken h AskDisable = ask_disable h
+abbrev pub after_control_step : Handshake → ControlStep → Handshake
+after_control_step h AskEnable = ask_enable h
+after_control_step h LookAsked = look_asked h
+after_control_step h Answer = if can_enable h then enable h else disable h
+after_control_step h LookAnswered = look_answered h
+after_control_step h AskDisable = ask_disable h
 
 -- Whether the step answers an enabling.
 -- No worked row decides whether the answer to a disabling counts; the laws' proofs rely on it.
@@ -138,5 +138,5 @@ has_ended h = is_ended h.controller && not (is_open h.driver)
 
 -- The driver has begun another epoch, and the controller has not answered yet. The controller still has the places of
 -- the previous epoch.
-abbrev pub is_between : Handshake → Bool
-is_between h = is_ended h.controller && is_open h.driver
+abbrev pub is_between_epochs : Handshake → Bool
+is_between_epochs h = is_ended h.controller && is_open h.driver

@@ -5,9 +5,9 @@ use Rattle.ring_model.specs.declared.states.Owner.{Owner}
 use Rattle.ring_model.specs.declared.states.Owner.TheVariants.{Driver, Ring, Controller}
 use Rattle.ring_model.specs.declared.states.DriverState.TheVariants.{New, Cleared, Tailed}
 use Rattle.ring_model.specs.declared.handshake.Handshake.{Handshake}
-use Rattle.ring_model.specs.shared.QueueSteps.{QueueStep, Post, Publish, Look, Fetch, Complete, Head, Reap, Shake, Reclaim, ClearHead, ClearTail, Renew}
+use Rattle.ring_model.specs.shared.QueueSteps.{QueueStep, Post, Publish, Look, Fetch, Complete, Head, Reap, Controls, Reclaim, ClearHead, ClearTail, Renew}
 use Rattle.ring_model.specs.shared.Frames.{ends_frame}
-use Rattle.ring_model.specs.shared.Handshakes.{first_handshake, is_cleared, is_live, is_open, is_serving, is_stopped, is_tailed, enables, may_shake, shaken}
+use Rattle.ring_model.specs.shared.Handshakes.{first_handshake, is_cleared, is_live, is_open, is_serving, is_stopped, is_tailed, enables, may_control_step, after_control_step}
 
 -- What the driver posted; what the controller completed, by storing or sending; and what the driver reaped, by
 -- taking or cleaning.
@@ -81,7 +81,7 @@ module _ {Posted Completed Reaped : Type 0} where
   may q (Complete x) = q.held
   may q Head = is_serving q.handshake.controller && not q.held
   may q (Reap x) = is_live q.handshake.driver && nat_lt (reaped_count q) (completed_count q)
-  may q (Shake c settled) = may_shake q.handshake c settled
+  may q (Controls c settled) = may_control_step q.handshake c settled
   may q Reclaim = is_stopped q.handshake.driver && nat_lt (returned_count q) (posted_count q)
   may q ClearHead = is_stopped q.handshake.driver && (returned_count q == posted_count q)
   may q ClearTail = is_cleared q.handshake.driver
@@ -96,7 +96,7 @@ module _ {Posted Completed Reaped : Type 0} where
   by q (Complete x) = record q { ledger = record q.ledger { completed = q.ledger.completed ++ x ∷ [] }; owners = passed_to Ring q (completed_count q); held = false }
   by q Head = record q { head = next_head q }
   by q (Reap x) = record q { ledger = record q.ledger { reaped = q.ledger.reaped ++ x ∷ [] }; owners = passed_to Driver q (reaped_count q) }
-  by q (Shake c settled) = record q { known = if enables q.handshake c then 0 else q.known; handshake = shaken q.handshake c }
+  by q (Controls c settled) = record q { known = if enables q.handshake c then 0 else q.known; handshake = after_control_step q.handshake c }
   by q Reclaim = record q { owners = passed_to Driver q (returned_count q); reclaimed = q.reclaimed + 1 }
   by q ClearHead = record q { head = 0; handshake = record q.handshake { driver = Cleared } }
   by q ClearTail = record q { published = 0; handshake = record q.handshake { driver = Tailed } }

@@ -11,7 +11,7 @@ pub data QueueStep (Posted Completed Reaped : Type 0) : Type 0 where
   Complete : Completed → QueueStep Posted Completed Reaped
   Head : QueueStep Posted Completed Reaped
   Reap : Reaped → QueueStep Posted Completed Reaped
-  Shake : ControlStep → Bool → QueueStep Posted Completed Reaped
+  Controls : ControlStep → Bool → QueueStep Posted Completed Reaped
   Reclaim : QueueStep Posted Completed Reaped
   ClearHead : QueueStep Posted Completed Reaped
   ClearTail : QueueStep Posted Completed Reaped

@@ -75,7 +75,7 @@ module _ {Payload : Type 0} where
   tx_can r Report = r.owed
   tx_can r LoadReport = is_live r.handshake.driver && is_there (oldest_report r)
   tx_can r Clean = is_live r.handshake.driver && nat_lt (reaped_count r.queue) r.seen_reported
-  tx_can r (Control c) = may r.queue (queue.Shake c (tx_settled r))
+  tx_can r (Control c) = may r.queue (queue.Controls c (tx_settled r))
   tx_can r Reclaim = may r.queue queue.Reclaim
   tx_can r ClearHead = may r.queue queue.ClearHead
   tx_can r ClearTail = may r.queue queue.ClearTail
@@ -91,7 +91,7 @@ module _ {Payload : Type 0} where
   tx_changed r Report = record r { reported = completed_count r.queue; owed = false }
   tx_changed r LoadReport = loaded_report r (oldest_report r)
   tx_changed r Clean = cleaned_one r (next_sent r)
-  tx_changed r (Control c) = record r { queue = by r.queue (queue.Shake c (tx_settled r)); owed = not (enables r.handshake c) && r.owed }
+  tx_changed r (Control c) = record r { queue = by r.queue (queue.Controls c (tx_settled r)); owed = not (enables r.handshake c) && r.owed }
   tx_changed r Reclaim = record r { queue = by r.queue queue.Reclaim }
   tx_changed r ClearHead = record r { queue = by r.queue queue.ClearHead }
   tx_changed r ClearTail = tx_cleared r (by_head r.completion)

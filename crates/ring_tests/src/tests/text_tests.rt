@@ -71,10 +71,10 @@ impl Named for TxNamed {
 }
 
 /// A line without its queue, and its step.
-type Line<S> = (&'static str, S);
+type LineRow<S> = (&'static str, S);
 
 /// The lines that both directions have.
-const CONTROLS: &[Line<ControlStep>] = &[
+const CONTROLS: &[LineRow<ControlStep>] = &[
     ("C1", ControlStep::AskEnable),
     ("C2", ControlStep::LookAsked),
     ("C3", ControlStep::Answer),
@@ -91,7 +91,7 @@ fn is_line<R: Abort, S: Named>(rt: &R, alloc: Global, letter: char, line: &str, 
 }
 
 // Checks the lines of these steps.
-fn are_lines<R: Abort, S: Named>(rt: &R, alloc: Global, letter: char, rows: &[Line<S>]) {
+fn are_lines<R: Abort, S: Named>(rt: &R, alloc: Global, letter: char, rows: &[LineRow<S>]) {
     for (line, step) in rows {
         is_line(rt, alloc, letter, line, *step);
     }

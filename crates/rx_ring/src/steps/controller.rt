@@ -9,7 +9,7 @@ ghost use Rattle.shared_ring.specs.declared.events.DriverEvent.TheVariants as dr
 ghost use Rattle.shared_ring.specs.declared.events.ControllerEvent.TheVariants as controller;
 ghost use Rattle.shared_ring.specs.Ends.{controller_of};
 ghost use Rattle.rx_ring.specs.declared.events.RxControllerOwn.TheVariants.{WroteBack, SaidQuiet};
-ghost use Rattle.rx_ring.specs.Ends.{controller_size, stored, held_number, controller_state, is_between, serve_place, controller_grown};
+ghost use Rattle.rx_ring.specs.Ends.{controller_size, stored, held_number, controller_state, is_at_frame_end, serve_place, controller_grown};
 ghost use Rattle.rx_ring.specs.Form.{rx};
 
 use crate::direction::{RxControllerSeat, RxShared};
@@ -73,7 +73,7 @@ pub(crate) fn say_quiet(seat: &mut RxControllerSeat, ring: &RxShared)
     requires own { seat.old.table ≡ ring.now }
     requires serving { is_serving (controller_state (controller_of rx seat.old)) ≡ true }
     requires held { held_number (controller_of rx seat.old) ≡ None }
-    requires between { is_between (controller_of rx seat.old) ≡ true }
+    requires at_frame_end { is_at_frame_end (controller_of rx seat.old) ≡ true }
     ensures { controller_of rx seat.new ≡ controller_grown (controller_of rx seat.old) (controller.Own SaidQuiet) }
 {
     let index = seat.size() as usize + QUIET;

@@ -1,14 +1,14 @@
 //! Serving a request.
 ghost use Rattle.std.specs.Prelude.{◌≡◌, IfErr, OnOk, All};
 ghost use Rattle.std.specs.Io.KnownBytes.{Keeps};
-ghost use Rattle.requests.specs.declared.answers.TheConstants.{DONE};
+ghost use Rattle.requests.specs.declared.answers.TheConstants.{EXIT_SUCCESS};
 ghost use Rattle.schedules.specs.Lists.{Meets};
 ghost use Rattle.schedule_command.specs.Covers.{EndsCover, Prints, PrintsCover, PrintsLists, Refuses, RefusesCover};
 
 use crate::covering::listing::list_of;
 use crate::covering::searching::search_of;
-use requests::{CoverRequest, DONE, Refusal, Shown, print, refuse_explained};
-use schedules::covering::{CoverList, Scope, Side};
+use requests::{CoverRequest, EXIT_SUCCESS, Refusal, ReplayOutput, print, refuse_explained};
+use schedules::covering::{CoverList, Scope, SearchedQueue};
 use std::alloc::Global;
 use std::io::Write;
 
@@ -24,10 +24,10 @@ pub fn answer<W: Write, E: Write, M: Write>(
     explain: bool,
 ) -> u8
     ensures ends { EndsCover request.now result (W.contents output.old) (W.contents output.new) }
-    ensures done { result ≡ DONE → Keeps (E.contents faults.old) (E.contents faults.new) }
+    ensures done { result ≡ EXIT_SUCCESS → Keeps (E.contents faults.old) (E.contents faults.new) }
 {
     match perform(alloc, request, output, shown) {
-        Ok(()) => DONE,
+        Ok(()) => EXIT_SUCCESS,
         Err(refusal) => refuse_explained(faults, refusal, "", explain),
     }
 }
@@ -46,11 +46,11 @@ pub fn perform<W: Write, M: Write>(
     ensures refused { IfErr result (RefusesCover request.now) }
 {
     let receive = Scope {
-        side: Side::Receive,
+        side: SearchedQueue::Receive,
         device_only: request.device_only,
     };
     let transmit = Scope {
-        side: Side::Transmit(request.completion),
+        side: SearchedQueue::Transmit(request.completion),
         device_only: request.device_only,
     };
     cover(alloc, receive, request.expect, output, shown)?;
@@ -61,7 +61,7 @@ pub fn perform<W: Write, M: Write>(
 fn cover<W: Write, M: Write>(
     alloc: Global,
     scope: Scope,
-    expect: Option<Shown>,
+    expect: Option<ReplayOutput>,
     output: &mut W,
     shown: &mut M,
 ) -> Result<(), Refusal>
@@ -77,7 +77,7 @@ fn cover<W: Write, M: Write>(
 fn print_lists<W: Write>(
     alloc: Global,
     scope: Scope,
-    expect: Option<Shown>,
+    expect: Option<ReplayOutput>,
     lists: &[CoverList],
     output: &mut W,
 ) -> Result<(), Refusal>

@@ -5,13 +5,13 @@ ghost use Rattle.schedule_command.specs.Covers.{IsText, IsUnreplayed, NotPrinted
 ghost use Rattle.schedule_command.specs.Lists.{Follows};
 
 use commands::replay_text;
-use requests::{QueuePlan, Refusal, Shown};
+use requests::{QueuePlan, Refusal, ReplayOutput};
 use ring_machine::Move;
 use schedules::covering::{CoverList, Scope};
 use std::alloc::{AllocError, Global};
 
 // The queues with which a list begins.
-fn queues_of(scope: Scope, shown: Shown) -> QueuePlan
+fn queues_of(scope: Scope, shown: ReplayOutput) -> QueuePlan
     ensures { result ≡ queues_of scope shown }
 {
     QueuePlan {
@@ -49,7 +49,7 @@ fn text_of(alloc: Global, list: &CoverList) -> Result<String, AllocError>
 pub(crate) fn list_of(
     alloc: Global,
     scope: Scope,
-    expect: Option<Shown>,
+    expect: Option<ReplayOutput>,
     list: &CoverList,
 ) -> Result<String, Refusal>
     ensures done { IfOk result (λ text. IsText scope expect list.now (string_bytes text)) }
@@ -65,7 +65,7 @@ pub(crate) fn list_of(
 fn expected_of(
     alloc: Global,
     scope: Scope,
-    expect: Option<Shown>,
+    expect: Option<ReplayOutput>,
     list: &str,
 ) -> Result<String, Refusal>
     ensures done { IfOk result (λ more. Follows expect (queues_of scope) list.now (string_bytes more)) }

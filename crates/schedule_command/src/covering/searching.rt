@@ -1,7 +1,7 @@
 //! A complete search, with its progress.
 ghost use Rattle.std.specs.Prelude.{◌≡◌, IfOk};
 
-use schedules::covering::{Scope, Search, Side};
+use schedules::covering::{Scope, Search, SearchedQueue};
 use std::alloc::{AllocError, Global};
 use std::io::Write;
 
@@ -9,15 +9,15 @@ use std::io::Write;
 const STATES_A_LINE: usize = 1000;
 
 // Prints the progress of a search as one line. Ignores a failing stream.
-fn tell<E: Write>(search: &Search, side: Side, shown: &mut E) {
+fn tell<E: Write>(search: &Search, side: SearchedQueue, shown: &mut E) {
     let queue = match side {
-        Side::Receive => "r0",
-        Side::Transmit(_) => "t0",
+        SearchedQueue::Receive => "r0",
+        SearchedQueue::Transmit(_) => "t0",
     };
     let _ = writeln!(
         shown,
         "{queue} states {} of {} steps {} pairs {}",
-        search.gone_over(),
+        search.expanded(),
         search.states(),
         search.steps(),
         search.pairs()
@@ -37,7 +37,7 @@ pub(crate) fn search_of<E: Write>(
         if search.is_whole() {
             break;
         }
-        search.go_on(alloc, STATES_A_LINE)?;
+        search.expand(alloc, STATES_A_LINE)?;
         tell(&search, scope.side, shown);
     }
     Ok(search)

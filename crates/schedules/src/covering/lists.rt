@@ -2,9 +2,9 @@
 ghost use Rattle.std.specs.Prelude.{All, IfOk, IfSome};
 ghost use Rattle.schedules.specs.Lists.{Meets};
 
+use crate::covering::outcome::OutcomeKind;
 use crate::covering::pairs::Pair;
 use crate::covering::search::{Search, queues_of};
-use crate::covering::told::Told;
 use crate::covering::tried::Scope;
 use ring_machine::Move;
 use std::alloc::{AllocError, Global};
@@ -32,7 +32,7 @@ fn met_by(
     if queues.run(path.as_slice()) != path.len() {
         return Ok(None);
     }
-    if Told::of(queues.step(pair.action)) != pair.told {
+    if OutcomeKind::of(queues.step(pair.action)) != pair.outcome {
         return Ok(None);
     }
     let mut moves = path;

@@ -2,7 +2,7 @@
 ghost use Rattle.std.specs.Prelude.{◌≡◌, ◌<◌, Some};
 ghost use Rattle.schedules.specs.Pairs.{controller_number, controller_words, driver_number, driver_words, pair_text, states_text};
 
-use crate::covering::told::Told;
+use crate::covering::outcome::OutcomeKind;
 use ring_machine::{ControlStep, ControllerState, DriverState, Move, RxStep, TxStep};
 use std::fmt;
 
@@ -16,7 +16,7 @@ pub struct Pair {
     /// The state of the controller.
     pub controller: ControllerState,
     /// The outcome of the move.
-    pub told: Told,
+    pub outcome: OutcomeKind,
 }
 
 /// Prints as `r0 A6 driver On controller serving: none`.
@@ -29,8 +29,8 @@ impl fmt::Display for Pair {
             driver: self.driver,
             controller: self.controller,
         };
-        let told = self.told;
-        write!(f, "{name} {states}: {told}")
+        let outcome = self.outcome;
+        write!(f, "{name} {states}: {outcome}")
     }
 }
 
@@ -131,6 +131,6 @@ impl Pair {
         ensures { result < 5670 }
     {
         let states = driver_number(self.driver) * 3 + controller_number(self.controller);
-        (kind_number(self.action) * 21 + states) * 15 + self.told.number()
+        (kind_number(self.action) * 21 + states) * 15 + self.outcome.number()
     }
 }

@@ -3,9 +3,9 @@ ghost use Rattle.std.specs.Prelude.{◌≡◌, IfOk};
 ghost use Rattle.ring_machine.specs.Queues.{QueuesAgree};
 ghost use Rattle.schedules.specs.Lists.{beginning};
 
+use crate::covering::outcome::OutcomeKind;
 use crate::covering::pairs::{PAIRS, Pair};
-use crate::covering::standing::Standing;
-use crate::covering::told::Told;
+use crate::covering::summary::QueueSummary;
 use crate::covering::tried::{MOVES_TRIED, Scope, moves_tried};
 use ring_machine::{MachineError, Move, Note, Queues};
 use std::alloc::{AllocError, Global};
@@ -15,7 +15,7 @@ use std::marker::Model;
 /// A reached state: the queue's state, the state before it, the move from there, and the number of moves so far.
 #[derive(Clone, Copy)]
 struct Node {
-    standing: Standing,
+    summary: QueueSummary,
     from: usize,
     action: Option<Move>,
     pair: usize,
@@ -35,7 +35,7 @@ pub struct Search {
     pub(crate) scope: Scope,
     nodes: Vec<Node>,
     reached: HashSet<u64>,
-    gone_over: usize,
+    expanded: usize,
     steps: u64,
     met: Vec<bool>,
     found: Vec<Found>,
@@ -84,10 +84,10 @@ impl Search {
     {
         let mut nodes = Vec::new(alloc);
         let mut reached = HashSet::new(alloc);
-        let standing = Standing::first(scope);
-        reached.insert(standing.key())?;
+        let summary = QueueSummary::first(scope);
+        reached.insert(summary.key())?;
         nodes.push(Node {
-            standing,
+            summary,
             from: 0,
             action: None,
             pair: 0,
@@ -97,7 +97,7 @@ impl Search {
             scope,
             nodes,
             reached,
-            gone_over: 0,
+            expanded: 0,
             steps: 0,
             met: vec![in alloc; false; PAIRS]?,
             found: Vec::new(alloc),
@@ -105,19 +105,19 @@ impl Search {
     }
 
     /// Expands up to `most` more states: tries each move in each of them. Fails only if memory was refused.
-    pub fn go_on(&mut self, alloc: Global, most: usize) -> Result<(), AllocError>
+    pub fn expand(&mut self, alloc: Global, most: usize) -> Result<(), AllocError>
         ensures { self.new ≡ self.old }
     {
         let Some(moves) = moves_tried(self.scope.side) else {
             return Err(AllocError);
         };
         for _ in 0..most {
-            let Some(node) = self.nodes.get(self.gone_over) else {
+            let Some(node) = self.nodes.get(self.expanded) else {
                 return Ok(());
             };
             let node = *node;
             self.go_over(alloc, &node, &moves)?;
-            self.gone_over = self.gone_over.saturating_add(1);
+            self.expanded = self.expanded.saturating_add(1);
         }
         Ok(())
     }
@@ -131,10 +131,10 @@ impl Search {
     ) -> Result<(), AllocError>
         ensures { self.new ≡ self.old }
     {
-        let path = self.path_to(alloc, self.gone_over)?;
+        let path = self.path_to(alloc, self.expanded)?;
         let mut queues = queues_after(alloc, self.scope, path.as_slice())?;
         for action in moves {
-            if !self.scope.has(*action) || node.standing.is_too_much(*action) {
+            if !self.scope.has(*action) || node.summary.is_too_much(*action) {
                 continue;
             }
             self.steps = self.steps.saturating_add(1);
@@ -157,9 +157,9 @@ impl Search {
     {
         let pair = Pair {
             action,
-            driver: node.standing.driver(),
-            controller: node.standing.controller(),
-            told: Told::of(answer),
+            driver: node.summary.driver(),
+            controller: node.summary.controller(),
+            outcome: OutcomeKind::of(answer),
         };
         self.find(&pair)?;
         match answer {
@@ -175,7 +175,7 @@ impl Search {
     fn find(&mut self, pair: &Pair) -> Result<(), AllocError>
         ensures { self.new ≡ self.old }
     {
-        let at = self.gone_over;
+        let at = self.expanded;
         if let Some(is_met) = self.met.get_mut(pair.number()) {
             if !*is_met {
                 *is_met = true;
@@ -189,11 +189,11 @@ impl Search {
     fn reach(&mut self, node: &Node, pair: &Pair, note: Note) -> Result<(), AllocError>
         ensures { self.new ≡ self.old }
     {
-        let standing = node.standing.after(pair.action, note);
-        if self.reached.insert(standing.key())? {
+        let summary = node.summary.after(pair.action, note);
+        if self.reached.insert(summary.key())? {
             self.nodes.push(Node {
-                standing,
-                from: self.gone_over,
+                summary,
+                from: self.expanded,
                 action: Some(pair.action),
                 pair: pair.number(),
                 depth: node.depth.saturating_add(1),
@@ -254,7 +254,7 @@ impl Search {
 
     /// Whether every reached state was expanded.
     pub fn is_whole(&self) -> bool {
-        self.gone_over >= self.nodes.len()
+        self.expanded >= self.nodes.len()
     }
 
     /// The number of reached states.
@@ -263,8 +263,8 @@ impl Search {
     }
 
     /// The number of expanded states.
-    pub fn gone_over(&self) -> usize {
-        self.gone_over
+    pub fn expanded(&self) -> usize {
+        self.expanded
     }
 
     /// The number of moves tried.

@@ -8,21 +8,21 @@ use ring_machine::{
 
 /// The queue that is searched.
 #[derive(Clone, Copy, PartialEq, Eq)]
-pub enum Side {
+pub enum SearchedQueue {
     /// A receive queue.
     Receive,
     /// A transmit queue with this way to report.
     Transmit(Completion),
 }
 
-impl Side {
+impl SearchedQueue {
     /// How the transmit queue of the pair reports, whether or not it is the searched queue.
     pub fn completion(self) -> Completion
         ensures { result ≡ completion_of self }
     {
         match self {
-            Side::Receive => Completion::Status,
-            Side::Transmit(completion) => completion,
+            SearchedQueue::Receive => Completion::Status,
+            SearchedQueue::Transmit(completion) => completion,
         }
     }
 }
@@ -31,7 +31,7 @@ impl Side {
 #[derive(Clone, Copy, PartialEq, Eq)]
 pub struct Scope {
     /// The queue that is searched.
-    pub side: Side,
+    pub side: SearchedQueue,
     /// If set, the queue begins enabled, and only moves are made that silicon and its driver make too: none of the
     /// handshake, the quiet word, reclaiming, or renewal. Otherwise the queue begins never enabled, and all moves are
     /// made.
@@ -158,13 +158,13 @@ fn transmit_moves(
 }
 
 /// The moves that are tried in each state of such a queue, which is queue 0: every kind of move that it has.
-pub fn moves_tried(side: Side) -> Option<[Move; MOVES_TRIED]>
+pub fn moves_tried(side: SearchedQueue) -> Option<[Move; MOVES_TRIED]>
     ensures { IfSome result (λ moves. moves ≡ tried_on side) }
 {
     let queue = QueueNumber::new(0)?;
     match side {
-        Side::Receive => Some(receive_moves(queue, SegmentLength::new(60)?)),
-        Side::Transmit(_) => Some(transmit_moves(
+        SearchedQueue::Receive => Some(receive_moves(queue, SegmentLength::new(60)?)),
+        SearchedQueue::Transmit(_) => Some(transmit_moves(
             queue,
             SegmentDescriptor::new(0, 60, false, false, 60)?,
             SegmentDescriptor::new(0, 60, true, false, 60)?,

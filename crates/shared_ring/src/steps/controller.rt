@@ -97,7 +97,7 @@ impl<D, C, R: Direction<D, C>> EndSeat<ControllerEvent<C>, D, C, R> {
         match which {
             ControllerLoad::Tail => {
                 let tail = self.look(ring);
-                at.ahead = places_between(at.serve, tail, at.size);
+                at.available = places_between(at.serve, tail, at.size);
                 tail
             }
             ControllerLoad::Request => {
@@ -123,8 +123,8 @@ impl<D, C, R: Direction<D, C>> EndSeat<ControllerEvent<C>, D, C, R> {
         } else {
             self.tell(ring, Control::Enabled);
             at.serve = 0;
-            at.ahead = 0;
-            at.between = true;
+            at.available = 0;
+            at.at_frame_end = true;
             at.state = ControllerState::Serving;
             at.seen = Control::Enabled;
         }

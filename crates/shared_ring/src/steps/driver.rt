@@ -3,7 +3,7 @@ ghost use Rattle.std.specs.Prelude.{◌≡◌, ◌+◌, ◌<◌, true, length};
 ghost use Rattle.ring_model.specs.shared.Handshakes.{is_open, is_stopped, is_cleared};
 ghost use Rattle.shared_ring.specs.Words.{control_word};
 ghost use Rattle.shared_ring.specs.declared.events.DriverEvent.TheVariants.{Posted, Published, LoadedControl, LoadedHead, ClearedHead, ClearedTail};
-ghost use Rattle.shared_ring.specs.Calls.{IsPoster, MayAsk, MayShake, StoredBy, shake_event, shaken, ReclaimedNext};
+ghost use Rattle.shared_ring.specs.Calls.{IsPoster, MayAsk, MayControlStep, StoredBy, control_event, after_control_step, ReclaimedNext};
 ghost use Rattle.shared_ring.specs.Ends.{driver_record, posted, returned, driver_state, fill_place, next_place, driver_of, grown};
 ghost use Rattle.shared_ring.specs.Plays.{asks};
 ghost use Rattle.shared_ring.specs.Steps.{CameBack};
@@ -150,7 +150,7 @@ impl<D, C, R: Direction<D, C>> EndSeat<DriverEvent<D>, D, C, R> {
     /// C1, C4 or C5: makes a step of the handshake and updates the driver's state. Returns the control value that was
     /// stored or loaded.
     #[inline]
-    pub fn shake(
+    pub fn control_step(
         &mut self,
         ring: &Ring<D, C, R>,
         step: HandshakeStep,
@@ -158,10 +158,10 @@ impl<D, C, R: Direction<D, C>> EndSeat<DriverEvent<D>, D, C, R> {
     ) -> Control
         requires own { self.old.table ≡ ring.now }
         requires is { state.old ≡ driver_state (driver_of R.form self.old) }
-        requires may { MayShake step (driver_state (driver_of R.form self.old)) }
+        requires may { MayControlStep step (driver_state (driver_of R.form self.old)) }
         ensures stored { StoredBy step result }
-        ensures step { self.new ≡ grown self.old (shake_event step (control_word result)) }
-        ensures state { state.new ≡ shaken step state.old (control_word result) }
+        ensures step { self.new ≡ grown self.old (control_event step (control_word result)) }
+        ensures state { state.new ≡ after_control_step step state.old (control_word result) }
     {
         match step {
             HandshakeStep::AskEnable => {

@@ -1,5 +1,5 @@
 use Rattle.std.proofs.Common.{◌≡◌, ap, Option, Some, None, unwrap_or}
-use Rattle.requests.specs.declared.decode.Form.{Form}
+use Rattle.requests.specs.declared.decode.DescriptorForm.{DescriptorForm}
 use Rattle.requests.specs.Decoding.{ring_word, format_word}
 use Rattle.command_line.proofs.command.decode_in.Goals as goal
 
@@ -14,4 +14,4 @@ returns c form digits has =
     let ring = c.in_ok-word_in.ensures (ring_word form) has.ring in
     let format = c.in_ok-word_in-2.ensures (format_word form) has.format in
     let named : Some c.in_ok-form.form ≡ Some form = (c.in_ok-form.ensures form).1 (ring, format) in
-    (ap (λ (o : Option Form). unwrap_or o form) named, c.in_ok-digits.ensures digits has.hex)
+    (ap (λ (o : Option DescriptorForm). unwrap_or o form) named, c.in_ok-digits.ensures digits has.hex)

@@ -1,7 +1,7 @@
 use Rattle.std.proofs.Common.{◌∙◌}
 use Rattle.std.proofs.lemmas.Result.{err_from_is_err_and}
 use Rattle.command_line.proofs.CommandLine.{free, misuse_fails, misuse_not_taken, simple}
-use Rattle.command_line.proofs.Sayings.{found, taken}
+use Rattle.command_line.proofs.ParsedCommands.{found, taken}
 use Rattle.command_line.proofs.command.parsed.Goals as goal
 
 -- ---- what the words say

@@ -1,6 +1,6 @@
 -- The request has the numbers of the recommended lists, and the queues and what is expected that the words say.
 use Rattle.std.proofs.Common.{◌≡◌, ◌∙◌, ap, sym, true, false, Option, Some, None, unwrap_or}
-use Rattle.requests.specs.declared.replay.Shown.{Shown}
+use Rattle.requests.specs.declared.replay.ReplayOutput.{ReplayOutput}
 use Rattle.settings.specs.declared.plan.SchedulePlan.{SchedulePlan}
 use Rattle.requests.specs.declared.lists.ScheduleRequest.{ScheduleRequest}
 use Rattle.command_line.proofs.RequestParts.{request-from}
@@ -21,4 +21,4 @@ returns c request has =
     let plan = c.in_ok-plan.ensures.said request.plan has.queues (sym has.is_recommended.moves) (sym has.is_recommended.refused) (sym has.is_recommended.driver) in
     ap (λ (r : ScheduleRequest). Some r)
     (request-from request _ _ _ _ (ap (λ (o : Option SchedulePlan). unwrap_or o request.plan) plan) (sym has.is_recommended.seed)
-    (sym has.is_recommended.count) (ap (λ (o : Option (Option Shown)). unwrap_or o request.expect) (c.in_ok-expect.ensures request.expect has.expect)))
+    (sym has.is_recommended.count) (ap (λ (o : Option (Option ReplayOutput)). unwrap_or o request.expect) (c.in_ok-expect.ensures request.expect has.expect)))

@@ -4,7 +4,7 @@ use Rattle.std.specs.Prelude.{not}
 use Rattle.requests.specs.Replaying.{is_page}
 use Rattle.requests.specs.declared.replay.Pictures.{Pictures}
 use Rattle.requests.specs.declared.replay.Pictures.TheVariants.{Never, Each, Last, States, Page}
-use Rattle.requests.specs.declared.replay.Shown.{Shown}
+use Rattle.requests.specs.declared.replay.ReplayOutput.{ReplayOutput}
 use Rattle.command_line.specs.OptionWords.{said_pictures}
 use Rattle.command_line.specs.ShownWords.{HasWords, form_of, says_json, says_registers}
 use Rattle.command_line.proofs.showing.shown_in.Goals as goal
@@ -21,7 +21,7 @@ shown Last j false json = rw json refl
 shown States j r none = absurd none
 shown Page j r (json, registers) = rw (json, registers) refl
 
-read_as : (s : Shown) (page json registers : Bool) (p : Pictures) → page ≡ is_page s.pictures → json ≡ says_json s → registers ≡ says_registers s → p ≡ said_pictures s.pictures
+read_as : (s : ReplayOutput) (page json registers : Bool) (p : Pictures) → page ≡ is_page s.pictures → json ≡ says_json s → registers ≡ says_registers s → p ≡ said_pictures s.pictures
     → HasWords s.pictures s.json s.registers → form_of page json registers p ≡ Some s
 read_as s page json registers p page_is json_is registers_is pictures_are sayable = rw (page_is, json_is, registers_is, pictures_are) (shown s.pictures s.json s.registers sayable)
 

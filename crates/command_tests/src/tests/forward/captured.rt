@@ -86,6 +86,6 @@ pub fn is_piped<R: Host>(
     (next, output): (&[&str], &[&[u8]]),
 ) {
     let input = joined(alloc, input).expect(rt, "memory");
-    let first = outcome_of(rt, alloc, words, input.as_slice()).expect(rt, "a run");
+    let first = outcome_of(rt, alloc, words, input.as_slice());
     brings(rt, alloc, (next, &[first.output.as_slice()]), (output, ""))
 }

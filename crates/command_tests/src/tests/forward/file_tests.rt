@@ -42,7 +42,7 @@ fn each_comes_to<R: Host + AllocGlobal>(rt: &R, alloc: Global, rows: &[Row]) {
     for row in rows {
         put(rt, alloc, row.files);
         let wanted = (row.output.as_bytes(), row.faults, "");
-        let told = typed_by(rt, alloc, row.words, Input::broken(b"")).expect(rt, "a run");
+        let told = typed_by(rt, alloc, row.words, Input::broken(b""));
         is_told(rt, row.words, &told, wanted);
         have(rt, alloc, row.kept);
     }
@@ -63,7 +63,11 @@ const FORWARDED: &[Row] = &[
             "--capture",
             "0:0=one_queue_one.pcap",
         ],
-        output: "1 0 6163636465666768696a6b6c6d6e\n1 0 00020a0d23667f80feff0000000a\n1 0 0507050505050505050505050505\nflow 0 0 offered 3 stored 3 dropped 0 oversize 0 taken 3 posted 3 tx-dropped 0 wire 3 left 0 ended drained\nflow 1 0 offered 0 stored 0 dropped 0 oversize 0 taken 0 posted 0 tx-dropped 0 wire 0 left 0 ended drained\n",
+        output: "1 0 6163636465666768696a6b6c6d6e\n\
+         1 0 00020a0d23667f80feff0000000a\n\
+         1 0 0507050505050505050505050505\n\
+         flow 0 0 offered 3 stored 3 dropped 0 oversize 0 taken 3 posted 3 tx-dropped 0 wire 3 left 0 ended drained\n\
+         flow 1 0 offered 0 stored 0 dropped 0 oversize 0 taken 0 posted 0 tx-dropped 0 wire 0 left 0 ended drained\n",
         faults: "",
         kept: &[],
     },
@@ -79,7 +83,12 @@ const FORWARDED: &[Row] = &[
             "--capture=1:0=placed_letters.pcap",
             "--capture=0:1=placed_fives.pcap",
         ],
-        output: "0 0 6163636465666768696a6b6c6d6e\n1 1 0507050505050505050505050505\nflow 0 0 offered 0 stored 0 dropped 0 oversize 0 taken 0 posted 0 tx-dropped 0 wire 0 left 0 ended drained\nflow 0 1 offered 1 stored 1 dropped 0 oversize 0 taken 1 posted 1 tx-dropped 0 wire 1 left 0 ended drained\nflow 1 0 offered 1 stored 1 dropped 0 oversize 0 taken 1 posted 1 tx-dropped 0 wire 1 left 0 ended drained\nflow 1 1 offered 0 stored 0 dropped 0 oversize 0 taken 0 posted 0 tx-dropped 0 wire 0 left 0 ended drained\n",
+        output: "0 0 6163636465666768696a6b6c6d6e\n\
+         1 1 0507050505050505050505050505\n\
+         flow 0 0 offered 0 stored 0 dropped 0 oversize 0 taken 0 posted 0 tx-dropped 0 wire 0 left 0 ended drained\n\
+         flow 0 1 offered 1 stored 1 dropped 0 oversize 0 taken 1 posted 1 tx-dropped 0 wire 1 left 0 ended drained\n\
+         flow 1 0 offered 1 stored 1 dropped 0 oversize 0 taken 1 posted 1 tx-dropped 0 wire 1 left 0 ended drained\n\
+         flow 1 1 offered 0 stored 0 dropped 0 oversize 0 taken 0 posted 0 tx-dropped 0 wire 0 left 0 ended drained\n",
         faults: "",
         kept: &[],
     },
@@ -96,14 +105,19 @@ const FORWARDED: &[Row] = &[
             "--wire-capture",
             "1=chain_1.pcap",
         ],
-        output: "flow 0 0 offered 3 stored 3 dropped 0 oversize 0 taken 3 posted 3 tx-dropped 0 wire 3 left 0 ended drained\nflow 1 0 offered 0 stored 0 dropped 0 oversize 0 taken 0 posted 0 tx-dropped 0 wire 0 left 0 ended drained\n",
+        output: "flow 0 0 offered 3 stored 3 dropped 0 oversize 0 taken 3 posted 3 tx-dropped 0 wire 3 left 0 ended drained\n\
+         flow 1 0 offered 0 stored 0 dropped 0 oversize 0 taken 0 posted 0 tx-dropped 0 wire 0 left 0 ended drained\n",
         faults: "",
         kept: &[],
     },
     Row {
         files: &[],
         words: &["forward", "--capture", "0:0=chain_1.pcap"],
-        output: "1 0 6164636465666768696a6b6c6d6e\n1 0 00030a0d23667f80feff0000000a\n1 0 0508050505050505050505050505\nflow 0 0 offered 3 stored 3 dropped 0 oversize 0 taken 3 posted 3 tx-dropped 0 wire 3 left 0 ended drained\nflow 1 0 offered 0 stored 0 dropped 0 oversize 0 taken 0 posted 0 tx-dropped 0 wire 0 left 0 ended drained\n",
+        output: "1 0 6164636465666768696a6b6c6d6e\n\
+         1 0 00030a0d23667f80feff0000000a\n\
+         1 0 0508050505050505050505050505\n\
+         flow 0 0 offered 3 stored 3 dropped 0 oversize 0 taken 3 posted 3 tx-dropped 0 wire 3 left 0 ended drained\n\
+         flow 1 0 offered 0 stored 0 dropped 0 oversize 0 taken 0 posted 0 tx-dropped 0 wire 0 left 0 ended drained\n",
         faults: "",
         kept: &[],
     },
@@ -119,7 +133,7 @@ const OLD: Content = &[b"what stood there"];
 
 /// A missing file; a good capture, a faulty one, and a file that is not read; a wire file that cannot be written, and a
 /// script that cannot be read, both of which leave the other wire files unchanged.
-const REFUSED: &[Row] = &[
+const EXIT_REFUSED: &[Row] = &[
     Row {
         files: &[],
         words: &["forward", "--capture", "0:0=no such file.pcap"],
@@ -251,7 +265,7 @@ fn a_file_that_is_named_twice_is_refused(rt: HostRuntime) {
 
 #[test]
 fn a_file_that_fails_is_named_and_leaves_the_wire_files(rt: HostRuntime) {
-    each_comes_to(&rt, rt.alloc(), REFUSED);
+    each_comes_to(&rt, rt.alloc(), EXIT_REFUSED);
     holds(&rt, fs::read(&rt, "kept_old.pcap.0.part").is_err());
 }
 
@@ -272,7 +286,7 @@ const WIRED: &[&str] = &[
 /// The file is the output of `to-capture` for these lines and this port, and has a record.
 fn is_of_lines<R: Host + AllocGlobal>(rt: &R, alloc: Global, lines: &[u8], port: &str, file: &str) {
     let words = ["to-capture", port];
-    let made = outcome_of(rt, alloc, words.as_slice(), lines).expect(rt, "a run");
+    let made = outcome_of(rt, alloc, words.as_slice(), lines);
     let held = fs::read(rt, file).expect(rt, "the file");
     same(rt, held.as_slice(), made.output.as_slice());
     holds(rt, held.len() > 24);
@@ -280,7 +294,7 @@ fn is_of_lines<R: Host + AllocGlobal>(rt: &R, alloc: Global, lines: &[u8], port:
 
 #[test]
 fn what_leaves_a_port_is_the_capture_of_its_lines(rt: HostRuntime) {
-    let plain = outcome_of(&rt, rt.alloc(), PLAIN, SCRIPT).expect(&rt, "a run");
+    let plain = outcome_of(&rt, rt.alloc(), PLAIN, SCRIPT);
     let lines = plain.output.as_slice();
     comes_to(&rt, rt.alloc(), WIRED, SCRIPT, (lines, ""));
     is_of_lines(&rt, rt.alloc(), lines, "0", "lines_0.pcap");
@@ -297,15 +311,18 @@ const STREAMED: &[&str] = &[
 ];
 
 const STREAMED_COUNTS: &str =
-    "flow 0 0 offered 1 stored 1 dropped 0 oversize 0 taken 1 posted 1 tx-dropped 0 wire 1 left 0 ended drained\nflow 0 1 offered 2 stored 2 dropped 0 oversize 0 taken 2 posted 2 tx-dropped 0 wire 2 left 0 ended drained\nflow 1 0 offered 1 stored 1 dropped 0 oversize 0 taken 1 posted 1 tx-dropped 0 wire 1 left 0 ended drained\nflow 1 1 offered 0 stored 0 dropped 0 oversize 0 taken 0 posted 0 tx-dropped 0 wire 0 left 0 ended drained\n";
+    "flow 0 0 offered 1 stored 1 dropped 0 oversize 0 taken 1 posted 1 tx-dropped 0 wire 1 left 0 ended drained\n\
+     flow 0 1 offered 2 stored 2 dropped 0 oversize 0 taken 2 posted 2 tx-dropped 0 wire 2 left 0 ended drained\n\
+     flow 1 0 offered 1 stored 1 dropped 0 oversize 0 taken 1 posted 1 tx-dropped 0 wire 1 left 0 ended drained\n\
+     flow 1 1 offered 0 stored 0 dropped 0 oversize 0 taken 0 posted 0 tx-dropped 0 wire 0 left 0 ended drained\n";
 
 #[test]
 fn a_capture_has_standard_output_for_itself(rt: HostRuntime) {
-    let plain = outcome_of(&rt, rt.alloc(), PLAIN, SCRIPT).expect(&rt, "a run");
+    let plain = outcome_of(&rt, rt.alloc(), PLAIN, SCRIPT);
     let words = ["to-capture", "1"];
     let lines = plain.output.as_slice();
-    let made = outcome_of(&rt, rt.alloc(), words.as_slice(), lines).expect(&rt, "a run");
-    let streamed = outcome_of(&rt, rt.alloc(), STREAMED, SCRIPT).expect(&rt, "a run");
+    let made = outcome_of(&rt, rt.alloc(), words.as_slice(), lines);
+    let streamed = outcome_of(&rt, rt.alloc(), STREAMED, SCRIPT);
     same(&rt, streamed.status, 0);
     same(&rt, streamed.output.as_slice(), made.output.as_slice());
     same(&rt, streamed.shown(), STREAMED_COUNTS);

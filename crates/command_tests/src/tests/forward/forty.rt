@@ -18,7 +18,10 @@ const LAST: u8 = 0x26;
 
 /// The line of the flow with the 40 frames, and those of the other flows.
 const FLOWS: &str =
-    "flow 0 0 offered 0 stored 0 dropped 0 oversize 0 taken 0 posted 0 tx-dropped 0 wire 0 left 0 ended drained\nflow 0 1 offered 40 stored 40 dropped 0 oversize 0 taken 40 posted 40 tx-dropped 0 wire 40 left 0 ended drained\nflow 1 0 offered 0 stored 0 dropped 0 oversize 0 taken 0 posted 0 tx-dropped 0 wire 0 left 0 ended drained\nflow 1 1 offered 0 stored 0 dropped 0 oversize 0 taken 0 posted 0 tx-dropped 0 wire 0 left 0 ended drained\n";
+    "flow 0 0 offered 0 stored 0 dropped 0 oversize 0 taken 0 posted 0 tx-dropped 0 wire 0 left 0 ended drained\n\
+     flow 0 1 offered 40 stored 40 dropped 0 oversize 0 taken 40 posted 40 tx-dropped 0 wire 40 left 0 ended drained\n\
+     flow 1 0 offered 0 stored 0 dropped 0 oversize 0 taken 0 posted 0 tx-dropped 0 wire 0 left 0 ended drained\n\
+     flow 1 1 offered 0 stored 0 dropped 0 oversize 0 taken 0 posted 0 tx-dropped 0 wire 0 left 0 ended drained\n";
 
 /// A script of 40 frames that come in at port 0, queue 1.
 pub fn forty(alloc: Global) -> Result<String, AllocError> {

@@ -2,7 +2,7 @@
 
 use crate::tests::forward::crowd::{FLOWS, crowd, crowd_forwarded};
 use crate::tests::forward::forty::{forty, forty_forwarded, forty_words};
-use crate::tests::forward::forward_rows::{FORWARDED, REFUSED, SHAPED};
+use crate::tests::forward::forward_rows::{EXIT_REFUSED, FORWARDED, NO_CONFIGS, SHAPED};
 use crate::tests::runs::{Host, outcome_of};
 use crate::tests::told::{comes_to_text, each_comes_to};
 use crate::tests::wanted::same;
@@ -29,7 +29,21 @@ fn what_is_forwarded_comes_to_its_text(rt: HostRuntime) {
 
 #[test]
 fn what_is_refused_comes_to_its_line(rt: HostRuntime) {
-    each_comes_to(&rt, rt.alloc(), REFUSED)
+    each_comes_to(&rt, rt.alloc(), EXIT_REFUSED)
+}
+
+#[test]
+fn what_is_no_configuration_is_refused(rt: HostRuntime) {
+    let (script, wanted) = ("0 0 fill 14 00\n", ("", "refused 64 config\n"));
+    for (option, value) in NO_CONFIGS {
+        comes_to_text(
+            &rt,
+            rt.alloc(),
+            &["forward", *option, *value],
+            script,
+            wanted,
+        );
+    }
 }
 
 #[test]
@@ -63,7 +77,7 @@ fn forty_frames_are_printed_alike_whatever_the_workers(rt: HostRuntime) {
 
 /// A run on these words and this script ends with status 0, and its output contains this text.
 fn has_text<R: Host>(rt: &R, alloc: Global, (words, script): (&[&str], &str), wanted: &str) {
-    let told = outcome_of(rt, alloc, words, script.as_bytes()).expect(rt, "a run");
+    let told = outcome_of(rt, alloc, words, script.as_bytes());
     let text = told.text();
     let is_there = text.contains(wanted);
     same(rt, (text, told.status, is_there), (text, 0, true));
@@ -86,8 +100,16 @@ const TEN: &str =
     "\nflow 0 0 offered 10 stored 10 dropped 0 oversize 0 taken 10 posted 10 tx-dropped 0 wire 10 left 0 ended drained\n";
 
 /// Ten frames of 15,000 bytes.
-const LONG_SCRIPT: &str =
-    "0 0 fill 15000 00\n0 0 fill 15000 00\n0 0 fill 15000 00\n0 0 fill 15000 00\n0 0 fill 15000 00\n0 0 fill 15000 00\n0 0 fill 15000 00\n0 0 fill 15000 00\n0 0 fill 15000 00\n0 0 fill 15000 00\n";
+const LONG_SCRIPT: &str = "0 0 fill 15000 00\n\
+     0 0 fill 15000 00\n\
+     0 0 fill 15000 00\n\
+     0 0 fill 15000 00\n\
+     0 0 fill 15000 00\n\
+     0 0 fill 15000 00\n\
+     0 0 fill 15000 00\n\
+     0 0 fill 15000 00\n\
+     0 0 fill 15000 00\n\
+     0 0 fill 15000 00\n";
 
 #[test]
 fn ten_frames_of_15_000_bytes_go_out(rt: HostRuntime) {
@@ -98,7 +120,7 @@ fn ten_frames_of_15_000_bytes_go_out(rt: HostRuntime) {
 fn forwards_crowd<R: Host>(rt: &R, alloc: Global, workers: u32, (script, printed): (&str, &str)) {
     let count = format!(in alloc; "{workers}").expect(rt, "memory");
     let words = ["forward", "--pairs", "8", "--workers", count.as_str()];
-    let told = outcome_of(rt, alloc, words.as_slice(), script.as_bytes()).expect(rt, "a run");
+    let told = outcome_of(rt, alloc, words.as_slice(), script.as_bytes());
     let is_same = told.output.as_slice() == printed.as_bytes();
     same(rt, (workers, told.status, is_same), (workers, 0, true));
 }

@@ -67,7 +67,7 @@ const THIRTEEN: &[u8] = b"abcdefghijklm";
 
 const NOT_CAPTURE: &str = "refused 91 not a capture in pcap or pcapng\n";
 
-const REFUSED: &[Refusing] = &[
+const EXIT_REFUSED: &[Refusing] = &[
     (&[], NOT_CAPTURE),
     (&[NEXT, AT_0, LETTERS], NOT_CAPTURE),
     (&[RAW, AT_0, LETTERS], "refused 92 link type\n"),
@@ -114,5 +114,5 @@ fn others_are_read(rt: HostRuntime) {
 
 #[test]
 fn faults_of_a_capture_are_told_with_their_record(rt: HostRuntime) {
-    each_is_refused(&rt, rt.alloc(), WORDS, REFUSED)
+    each_is_refused(&rt, rt.alloc(), WORDS, EXIT_REFUSED)
 }

@@ -101,7 +101,7 @@ fn has_lines<R: Abort>(rt: &R, page: &str) {
 
 #[test]
 fn help_has_each_option(rt: HostRuntime) {
-    let told = outcome_of(&rt, rt.alloc(), HELP, b"").expect(&rt, "a run");
+    let told = outcome_of(&rt, rt.alloc(), HELP, b"");
     same(&rt, told.status, 0);
     has_lines(&rt, told.text());
 }

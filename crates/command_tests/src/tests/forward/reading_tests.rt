@@ -4,7 +4,7 @@ use crate::tests::forward::captured::{
     AT_0, AT_1, AT_2, BYTES, Content, FIVES, HEADER, LETTERS, SHORT, joined,
 };
 use crate::tests::forward::file_tests::put;
-use crate::tests::runs::{Host, Told, outcome_of, told_by, typed_by};
+use crate::tests::runs::{Host, RunResult, outcome_of, told_by, typed_by};
 use crate::tests::streams::Input;
 use crate::tests::told::is_told;
 use std::alloc::Global;
@@ -28,9 +28,9 @@ struct Row {
     shown: &'static str,
 }
 
-fn told_of<R: Host>(rt: &R, alloc: Global, row: &Row) -> Told {
+fn told_of<R: Host>(rt: &R, alloc: Global, row: &Row) -> RunResult {
     let input = joined(alloc, row.input).expect(rt, "memory");
-    outcome_of(rt, alloc, row.words, input.as_slice()).expect(rt, "a run")
+    outcome_of(rt, alloc, row.words, input.as_slice())
 }
 
 /// Each run comes to its row.
@@ -111,7 +111,12 @@ const FORWARDED: &[Row] = &[
             "0:0=reading_good.pcap",
         ],
         input: &[],
-        output: "1 0 6163636465666768696a6b6c6d6e\n1 0 0507050505050505050505050505\n1 0 00020a0d23667f80feff0000000a\n1 0 6163636465666768696a6b6c6d6e\nflow 0 0 offered 4 stored 4 dropped 0 oversize 0 taken 4 posted 4 tx-dropped 0 wire 4 left 0 ended drained\nflow 1 0 offered 0 stored 0 dropped 0 oversize 0 taken 0 posted 0 tx-dropped 0 wire 0 left 0 ended drained\n",
+        output: "1 0 6163636465666768696a6b6c6d6e\n\
+         1 0 0507050505050505050505050505\n\
+         1 0 00020a0d23667f80feff0000000a\n\
+         1 0 6163636465666768696a6b6c6d6e\n\
+         flow 0 0 offered 4 stored 4 dropped 0 oversize 0 taken 4 posted 4 tx-dropped 0 wire 4 left 0 ended drained\n\
+         flow 1 0 offered 0 stored 0 dropped 0 oversize 0 taken 0 posted 0 tx-dropped 0 wire 0 left 0 ended drained\n",
         faults: "",
         shown: "reading_mixed.pcap: skipped truncated 1 snapped 1 long 0 short 1\n",
     },
@@ -129,7 +134,10 @@ const FORWARDED: &[Row] = &[
             "1:0=reading_mixed.pcap",
         ],
         input: &[],
-        output: "{\"port\":0,\"queue\":0,\"offered\":1,\"stored\":1,\"dropped\":0,\"oversize\":0,\"taken\":1,\"posted\":1,\"tx_dropped\":0,\"wire\":1,\"left\":0,\"rx_packets\":1,\"rx_dropped\":0,\"tx_packets\":1,\"tx_bytes\":14,\"ended\":\"drained\"}\n{\"port\":1,\"queue\":0,\"offered\":1,\"stored\":1,\"dropped\":0,\"oversize\":0,\"taken\":1,\"posted\":1,\"tx_dropped\":0,\"wire\":1,\"left\":0,\"rx_packets\":1,\"rx_dropped\":0,\"tx_packets\":1,\"tx_bytes\":14,\"ended\":\"drained\"}\n{\"capture\":1,\"truncated\":0,\"snapped\":0,\"long\":0,\"short\":0}\n{\"capture\":2,\"truncated\":0,\"snapped\":1,\"long\":0,\"short\":0}\n",
+        output: "{\"port\":0,\"queue\":0,\"offered\":1,\"stored\":1,\"dropped\":0,\"oversize\":0,\"taken\":1,\"posted\":1,\"tx_dropped\":0,\"wire\":1,\"left\":0,\"rx_packets\":1,\"rx_dropped\":0,\"tx_packets\":1,\"tx_bytes\":14,\"ended\":\"drained\"}\n\
+         {\"port\":1,\"queue\":0,\"offered\":1,\"stored\":1,\"dropped\":0,\"oversize\":0,\"taken\":1,\"posted\":1,\"tx_dropped\":0,\"wire\":1,\"left\":0,\"rx_packets\":1,\"rx_dropped\":0,\"tx_packets\":1,\"tx_bytes\":14,\"ended\":\"drained\"}\n\
+         {\"capture\":1,\"truncated\":0,\"snapped\":0,\"long\":0,\"short\":0}\n\
+         {\"capture\":2,\"truncated\":0,\"snapped\":1,\"long\":0,\"short\":0}\n",
         faults: "",
         shown: "reading_mixed.pcap: skipped truncated 0 snapped 1 long 0 short 0\n",
     },
@@ -143,7 +151,8 @@ const FORWARDED: &[Row] = &[
             "0:0=reading_good.pcap",
         ],
         input: &[],
-        output: "flow 0 0 offered 1 stored 1 dropped 0 oversize 0 taken 1 posted 1 tx-dropped 0 wire 1 left 0 ended drained\nflow 1 0 offered 0 stored 0 dropped 0 oversize 0 taken 0 posted 0 tx-dropped 0 wire 0 left 0 ended drained\n",
+        output: "flow 0 0 offered 1 stored 1 dropped 0 oversize 0 taken 1 posted 1 tx-dropped 0 wire 1 left 0 ended drained\n\
+         flow 1 0 offered 0 stored 0 dropped 0 oversize 0 taken 0 posted 0 tx-dropped 0 wire 0 left 0 ended drained\n",
         faults: "",
         shown: "",
     },
@@ -156,7 +165,11 @@ const FORWARDED: &[Row] = &[
             "0:0=reading_good.pcap",
         ],
         input: &[b"0 0 fill 14 05\n1 0 fill 14 06\n"],
-        output: "0 0 0607060606060606060606060606\n1 0 00020a0d23667f80feff0000000a\n1 0 0506050505050505050505050505\nflow 0 0 offered 2 stored 2 dropped 0 oversize 0 taken 2 posted 2 tx-dropped 0 wire 2 left 0 ended drained\nflow 1 0 offered 1 stored 1 dropped 0 oversize 0 taken 1 posted 1 tx-dropped 0 wire 1 left 0 ended drained\n",
+        output: "0 0 0607060606060606060606060606\n\
+         1 0 00020a0d23667f80feff0000000a\n\
+         1 0 0506050505050505050505050505\n\
+         flow 0 0 offered 2 stored 2 dropped 0 oversize 0 taken 2 posted 2 tx-dropped 0 wire 2 left 0 ended drained\n\
+         flow 1 0 offered 1 stored 1 dropped 0 oversize 0 taken 1 posted 1 tx-dropped 0 wire 1 left 0 ended drained\n",
         faults: "",
         shown: "",
     },
@@ -178,15 +191,16 @@ fn the_records_that_the_options_select_are_forwarded_before_the_script(rt: HostR
 const GOOD: &[&str] = &["forward", "--quiet", "--capture", "0:0=typed_good.pcap"];
 
 const COUNTS: &str =
-    "flow 0 0 offered 2 stored 2 dropped 0 oversize 0 taken 2 posted 2 tx-dropped 0 wire 2 left 0 ended drained\nflow 1 0 offered 0 stored 0 dropped 0 oversize 0 taken 0 posted 0 tx-dropped 0 wire 0 left 0 ended drained\n";
+    "flow 0 0 offered 2 stored 2 dropped 0 oversize 0 taken 2 posted 2 tx-dropped 0 wire 2 left 0 ended drained\n\
+     flow 1 0 offered 0 stored 0 dropped 0 oversize 0 taken 0 posted 0 tx-dropped 0 wire 0 left 0 ended drained\n";
 
 #[test]
 fn after_captures_a_terminal_is_not_read_and_another_input_is(rt: HostRuntime) {
     let alloc = rt.alloc();
     let files: &[(&str, Content)] = &[("typed_good.pcap", &[HEADER, AT_0, BYTES, AT_1, LETTERS])];
     put(&rt, alloc, files);
-    let typed = typed_by(&rt, alloc, GOOD, Input::broken(b"")).expect(&rt, "a run");
+    let typed = typed_by(&rt, alloc, GOOD, Input::broken(b""));
     is_told(&rt, GOOD, &typed, (COUNTS.as_bytes(), "", ""));
-    let failed = told_by(&rt, alloc, GOOD, Input::broken(b"")).expect(&rt, "a run");
+    let failed = told_by(&rt, alloc, GOOD, Input::broken(b""));
     is_told(&rt, GOOD, &failed, (b"", "refused 82 input\n", ""));
 }

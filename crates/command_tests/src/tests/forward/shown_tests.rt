@@ -1,8 +1,8 @@
 //! `--progress` shows the progress, and does not change the output.
 
 use crate::tests::forward::forty::{forty, forty_words};
-use crate::tests::runs::{Host, Told, outcome_of, outcome_on};
-use crate::tests::streams::Screen;
+use crate::tests::runs::{Host, RunResult, Streams, outcome_of, run_on};
+use crate::tests::streams::{Input, Screen};
 use crate::tests::wanted::same;
 use std::alloc::Global;
 use std::process::Abort;
@@ -15,9 +15,9 @@ const ANEW: &str = "\r\u{1b}[Koffered 40 of 40 taken 40 posted 40 per-second ";
 const OBJECT: &str = "{\"offered\":40,\"frames\":40,\"taken\":40,\"posted\":40,\"per_second\":";
 
 /// Options, whether the screen is a terminal, and the last progress line before and after the rate.
-type Shown = (&'static [&'static str], bool, &'static str, &'static str);
+type ShownRow = (&'static [&'static str], bool, &'static str, &'static str);
 
-const SHOWN: &[Shown] = &[
+const SHOWN: &[ShownRow] = &[
     (&[], false, LINE, "\n"),
     (&["--quiet"], true, ANEW, "\n"),
     (&["--json"], false, OBJECT, "}\n"),
@@ -37,21 +37,24 @@ fn run_shown<R: Host>(
     options: &[&str],
     script: &[u8],
     is_terminal: bool,
-) -> Told {
+) -> RunResult {
     let mut words = forty_words(alloc, options).expect(rt, "memory");
     words.push("--progress").expect(rt, "memory");
-    let screen = Screen::new(alloc, is_terminal);
-    outcome_on(rt, alloc, words.as_slice(), script, screen).expect(rt, "a run")
+    let streams = Streams {
+        screen: Screen::new(alloc, is_terminal),
+        ..Streams::of(alloc, Input::of(script))
+    };
+    run_on(rt, alloc, words.as_slice(), streams)
 }
 
 /// The same without `--progress`.
-fn run_dark<R: Host>(rt: &R, alloc: Global, options: &[&str], script: &[u8]) -> Told {
+fn run_dark<R: Host>(rt: &R, alloc: Global, options: &[&str], script: &[u8]) -> RunResult {
     let words = forty_words(alloc, options).expect(rt, "memory");
-    outcome_of(rt, alloc, words.as_slice(), script).expect(rt, "a run")
+    outcome_of(rt, alloc, words.as_slice(), script)
 }
 
 /// The output is the same, and there are no faults.
-fn are_alike<R: Abort>(rt: &R, told: &Told, dark: &Told) {
+fn are_alike<R: Abort>(rt: &R, told: &RunResult, dark: &RunResult) {
     same(rt, dark.shown(), "");
     same(rt, told.output.as_slice(), dark.output.as_slice());
     same(rt, (told.status, told.faults()), (0, ""));
@@ -59,7 +62,12 @@ fn are_alike<R: Abort>(rt: &R, told: &Told, dark: &Told) {
 
 /// With these options, `--progress` does not change the output, and the last line shown is this one, followed by digits
 /// and this end.
-fn shows<R: Host>(rt: &R, alloc: Global, script: &[u8], (options, is_terminal, last, end): Shown) {
+fn shows<R: Host>(
+    rt: &R,
+    alloc: Global,
+    script: &[u8],
+    (options, is_terminal, last, end): ShownRow,
+) {
     let dark = run_dark(rt, alloc, options, script);
     let told = run_shown(rt, alloc, options, script, is_terminal);
     are_alike(rt, &told, &dark);
@@ -77,21 +85,21 @@ fn with_progress_the_output_is_the_same(rt: HostRuntime) {
 }
 
 /// Words with a faulty script, and mistaken words, with the end of the error.
-const REFUSED: &[(&[&str], &str)] = &[
+const EXIT_REFUSED: &[(&[&str], &str)] = &[
     (&["forward", "--progress"], "line 1: refused 71 fields\n"),
     (&["forward", "--pairs", "--progress"], "\n"),
 ];
 
 /// A run on these words is refused with this end, and nothing is shown.
 fn is_not_shown<R: Host>(rt: &R, alloc: Global, words: &[&str], end: &str) {
-    let told = outcome_of(rt, alloc, words, b"0 0").expect(rt, "a run");
+    let told = outcome_of(rt, alloc, words, b"0 0");
     let is_refused = told.status > 0 && told.faults().ends_with(end);
     same(rt, (words, is_refused, told.shown()), (words, true, ""));
 }
 
 #[test]
 fn what_is_refused_is_not_shown(rt: HostRuntime) {
-    for (words, end) in REFUSED {
+    for (words, end) in EXIT_REFUSED {
         is_not_shown(&rt, rt.alloc(), words, end);
     }
 }

@@ -15,8 +15,9 @@ const WORDS: &[&str] = &["forward"];
 const SCRIPT: &str = "0 0 fill 14 05\n";
 
 /// The output of the script.
-const PRINTED: &str =
-    "1 0 0506050505050505050505050505\nflow 0 0 offered 1 stored 1 dropped 0 oversize 0 taken 1 posted 1 tx-dropped 0 wire 1 left 0 ended drained\nflow 1 0 offered 0 stored 0 dropped 0 oversize 0 taken 0 posted 0 tx-dropped 0 wire 0 left 0 ended drained\n";
+const PRINTED: &str = "1 0 0506050505050505050505050505\n\
+     flow 0 0 offered 1 stored 1 dropped 0 oversize 0 taken 1 posted 1 tx-dropped 0 wire 1 left 0 ended drained\n\
+     flow 1 0 offered 0 stored 0 dropped 0 oversize 0 taken 0 posted 0 tx-dropped 0 wire 0 left 0 ended drained\n";
 
 #[test]
 fn an_output_that_fails_has_a_beginning(rt: HostRuntime) {

@@ -6,8 +6,13 @@ use crate::tests::forward::captured::{
 };
 
 /// Lines of both ports and of flows, the last without a line end.
-const LINES: &[u8] =
-    b"1 3 6162636465666768696a6b6c6d6e\n0 0 00010a0d23667f80feff0000000a\nflow 0 0 offered\n1 0 00010a0d23667f80feff0000000a\n1 3 6162636465666768696a6b6c6d6e\nflow \nflow 1";
+const LINES: &[u8] = b"1 3 6162636465666768696a6b6c6d6e\n\
+     0 0 00010a0d23667f80feff0000000a\n\
+     flow 0 0 offered\n\
+     1 0 00010a0d23667f80feff0000000a\n\
+     1 3 6162636465666768696a6b6c6d6e\n\
+     flow \n\
+     flow 1";
 
 const WORDS: &[&str] = &["to-capture", "1"];
 
@@ -27,7 +32,7 @@ const WRITTEN: &[Writing] = &[
 ];
 
 /// Refused texts, and why. Line numbers also count skipped lines.
-const REFUSED: &[Refusing] = &[
+const EXIT_REFUSED: &[Refusing] = &[
     (&[b"0 0"], "line 1: refused 71 fields\n"),
     (&[b"flow 0 0\n# no\n\n0 0\n"], "line 4: refused 71 fields\n"),
     (&[b"flow\n"], "line 1: refused 71 fields\n"),
@@ -67,5 +72,5 @@ fn there_and_back_only_the_times_are_others(rt: HostRuntime) {
 
 #[test]
 fn faults_of_a_text_are_told_with_their_line(rt: HostRuntime) {
-    each_is_refused(&rt, rt.alloc(), WORDS, REFUSED)
+    each_is_refused(&rt, rt.alloc(), WORDS, EXIT_REFUSED)
 }

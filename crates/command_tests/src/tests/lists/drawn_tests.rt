@@ -20,64 +20,53 @@ const PLAN: SchedulePlan = SchedulePlan {
 };
 
 /// The kinds of moves that are counted.
-const REFUSED: usize = 0;
+#[derive(Clone, Copy, Debug, PartialEq)]
+enum Kind {
+    Refused,
+    Inner,
+    Taken,
+    Cleaned,
+    Quiet,
+    Disabled,
+    Reclaimed,
+    Renewed,
+}
 
-const INNER: usize = 1;
-
-const TAKEN: usize = 2;
-
-const CLEANED: usize = 3;
-
-const QUIET: usize = 4;
-
-const DISABLED: usize = 5;
-
-const RECLAIMED: usize = 6;
-
-const RENEWED: usize = 7;
-
-const KINDS: usize = 8;
+/// The number of moves of each kind.
+type Counts = [usize; 8];
 
 /// The kind of a move.
-fn kind_of(d: &Drawn) -> Option<usize> {
+fn kind_of(d: &Drawn) -> Option<Kind> {
     if !d.happens {
-        return Some(REFUSED);
+        return Some(Kind::Refused);
     }
     match d.action {
-        Move::Receive(_, RxStep::Store(_, false)) => Some(INNER),
-        Move::Receive(_, RxStep::Take) => Some(TAKEN),
-        Move::Transmit(_, TxStep::Clean) => Some(CLEANED),
-        Move::Receive(_, RxStep::StoreQuiet) => Some(QUIET),
-        Move::Receive(_, RxStep::Control(ControlStep::AskDisable)) => Some(DISABLED),
-        Move::Transmit(_, TxStep::Control(ControlStep::AskDisable)) => Some(DISABLED),
-        Move::Receive(_, RxStep::Reclaim) | Move::Transmit(_, TxStep::Reclaim) => Some(RECLAIMED),
-        Move::Receive(_, RxStep::ClearQuiet) | Move::Transmit(_, TxStep::ClearTail) => {
-            Some(RENEWED)
-        }
+        Move::Receive(_, RxStep::Store(_, false)) => Some(Kind::Inner),
+        Move::Receive(_, RxStep::Take) => Some(Kind::Taken),
+        Move::Transmit(_, TxStep::Clean) => Some(Kind::Cleaned),
+        Move::Receive(_, RxStep::StoreQuiet) => Some(Kind::Quiet),
+        Move::Receive(_, RxStep::Control(ControlStep::AskDisable)) => Some(Kind::Disabled),
+        Move::Transmit(_, TxStep::Control(ControlStep::AskDisable)) => Some(Kind::Disabled),
+        Move::Receive(_, RxStep::Reclaim) => Some(Kind::Reclaimed),
+        Move::Transmit(_, TxStep::Reclaim) => Some(Kind::Reclaimed),
+        Move::Receive(_, RxStep::ClearQuiet) => Some(Kind::Renewed),
+        Move::Transmit(_, TxStep::ClearTail) => Some(Kind::Renewed),
         _ => None,
     }
 }
 
 /// Counts the moves of a list.
-fn count(counts: &mut [usize; KINDS], drawn: &[Drawn]) {
+fn count(counts: &mut Counts, drawn: &[Drawn]) {
     for d in drawn {
         if let Some(kind) = kind_of(d) {
-            if let Some(found) = counts.get_mut(kind) {
-                *found = found.saturating_add(1);
-            }
+            counts[kind as usize] = counts[kind as usize].saturating_add(1);
         }
     }
 }
 
 /// Counts the moves of the first lists of a seed.
-fn counted<R: Abort>(
-    rt: &R,
-    alloc: Global,
-    plan: &SchedulePlan,
-    seed: u64,
-    lists: u64,
-) -> [usize; KINDS] {
-    let mut counts = [0; KINDS];
+fn counted<R: Abort>(rt: &R, alloc: Global, plan: &SchedulePlan, seed: u64, lists: u64) -> Counts {
+    let mut counts = [0; 8];
     for list in 0..lists {
         let drawn = draw(alloc, plan, seed, list).expect(rt, "a list");
         count(&mut counts, drawn.as_slice());
@@ -153,9 +142,10 @@ fn all_happen<R: Abort>(
     };
     let drawn = draw(alloc, &plan, 1, 0).expect(rt, "a list");
     same(rt, drawn.len(), 1000);
-    let mut counts = [0; KINDS];
+    let mut counts = [0; 8];
     count(&mut counts, drawn.as_slice());
-    same(rt, (pairs, ring, counts[REFUSED]), (pairs, ring, 0));
+    let refused = counts[Kind::Refused as usize];
+    same(rt, (pairs, ring, refused), (pairs, ring, 0));
     holds(rt, has_each(drawn.as_slice(), pairs));
 }
 
@@ -173,7 +163,7 @@ const LEAVES: &[(u32, usize, usize)] = &[(1, 9, 10), (10, 90, 100), (30, 250, 30
 
 fn are_refused<R: Abort>(rt: &R, alloc: Global, (refused, least, most): (u32, usize, usize)) {
     let plan = SchedulePlan { refused, ..PLAN };
-    let found = counted(rt, alloc, &plan, 2, 1)[REFUSED];
+    let found = counted(rt, alloc, &plan, 2, 1)[Kind::Refused as usize];
     holds(rt, least <= found && found <= most);
 }
 
@@ -185,18 +175,18 @@ fn as_many_are_refused_as_may_be(rt: HostRuntime) {
 }
 
 /// Kinds of moves, each with a count that ten lists exceed.
-const STATES: &[(usize, usize)] = &[
-    (INNER, 100),
-    (TAKEN, 500),
-    (CLEANED, 100),
-    (QUIET, 5),
-    (DISABLED, 20),
-    (RECLAIMED, 50),
-    (RENEWED, 10),
+const STATES: &[(Kind, usize)] = &[
+    (Kind::Inner, 100),
+    (Kind::Taken, 500),
+    (Kind::Cleaned, 100),
+    (Kind::Quiet, 5),
+    (Kind::Disabled, 20),
+    (Kind::Reclaimed, 50),
+    (Kind::Renewed, 10),
 ];
 
-fn is_more<R: Abort>(rt: &R, counts: &[usize; KINDS], kind: usize, least: usize) {
-    let found = counts.get(kind).copied().unwrap_or(0);
+fn is_more<R: Abort>(rt: &R, counts: &Counts, kind: Kind, least: usize) {
+    let found = counts[kind as usize];
     same(rt, (kind, found > least), (kind, true));
 }
 
@@ -256,36 +246,44 @@ fn a_driver_has_only_data_that_happens(rt: HostRuntime) {
     }
 }
 
-/// A ring, the thresholds refill, report and clean, and whether DPDK's driver accepts them.
-const FITTING: &[(u32, [u32; 3], bool)] = &[
-    (64, [32, 32, 32], true),
-    (32, [0, 1, 1], true),
-    (16, [0, 1, 1], false),
-    (64, [62, 32, 32], true),
-    (64, [63, 32, 32], false),
-    (64, [0, 0, 32], false),
-    (64, [0, 3, 32], false),
-    (64, [0, 32, 31], false),
-    (64, [0, 32, 33], false),
-    (64, [0, 1, 60], true),
-    (64, [0, 1, 61], false),
-    (4096, [0, 64, 64], false),
-    (4096, [0, 32, 4064], true),
+/// A ring, the thresholds refill, report and clean that DPDK's driver accepts for it, and those that it refuses.
+type Fitting = (u32, &'static [[u32; 3]], &'static [[u32; 3]]);
+
+const FITTING: &[Fitting] = &[
+    (16, &[], &[[0, 1, 1]]),
+    (32, &[[0, 1, 1]], &[]),
+    (
+        64,
+        &[[32, 32, 32], [62, 32, 32], [0, 1, 60]],
+        &[
+            [63, 32, 32],
+            [0, 0, 32],
+            [0, 3, 32],
+            [0, 32, 31],
+            [0, 32, 33],
+            [0, 1, 61],
+        ],
+    ),
+    (4096, &[[0, 32, 4064]], &[[0, 64, 64]]),
 ];
 
-#[test]
-fn thresholds_fit_as_for_dpdk(rt: HostRuntime) {
-    for (ring, [refill, report, clean], fits) in FITTING {
+/// Each of these fits the ring, or none does.
+fn each_fits<R: Abort>(rt: &R, ring: u32, rows: &[[u32; 3]], fits: bool) {
+    for [refill, report, clean] in rows {
         let thresholds = Thresholds {
             refill: *refill,
             report: *report,
             clean: *clean,
         };
-        same(
-            &rt,
-            (thresholds, thresholds.fit(*ring)),
-            (thresholds, *fits),
-        );
+        same(rt, (thresholds, thresholds.fit(ring)), (thresholds, fits));
+    }
+}
+
+#[test]
+fn thresholds_fit_as_for_dpdk(rt: HostRuntime) {
+    for (ring, fitting, others) in FITTING {
+        each_fits(&rt, *ring, fitting, true);
+        each_fits(&rt, *ring, others, false);
     }
 }
 

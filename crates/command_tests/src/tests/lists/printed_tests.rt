@@ -29,8 +29,16 @@ const REQUEST: ScheduleRequest = ScheduleRequest {
 };
 
 /// The output of that request.
-const LISTS: &str =
-    "r0 A1 50788\nt0 B1 4685 14 0 0 31\nt0 B1 44665 17 1 1 31\nt0 B7\n# end\nt0 B1 13746 22 1 1 22\nt0 B1 31314 1187 0 0 1243\nr0 A1 16182\nt0 B7\n# end\n";
+const LISTS: &str = "r0 A1 50788\n\
+     t0 B1 4685 14 0 0 31\n\
+     t0 B1 44665 17 1 1 31\n\
+     t0 B7\n\
+     # end\n\
+     t0 B1 13746 22 1 1 22\n\
+     t0 B1 31314 1187 0 0 1243\n\
+     r0 A1 16182\n\
+     t0 B7\n\
+     # end\n";
 
 /// The output of a request that succeeds.
 fn printed<A: Abort>(rt: &A, alloc: Global, request: &ScheduleRequest) -> String {

@@ -1,6 +1,6 @@
 //! Lists of moves with the output of `replay --picture`.
 
-use crate::tests::replay::transcripts::{Transcript, each_is_so};
+use crate::tests::replay::transcripts::{FETCHED, Transcript, each_is_so};
 
 /// The places from the fourth on, of a ring of 8 that is empty there.
 const EMPTY: &str = "3\t-\tdrv\tany\t-\n\
@@ -35,16 +35,12 @@ const PICTURES: &[Transcript] = &[
     (
         &["replay", "--picture=last"],
         &[
-            "r0 A1 5: place 0\n\
-             r0 A1 6: place 1\n\
-             r0 A2: tail 2\n\
-             r0 A3: free 2\n\
-             r0 A4: place 0 buffer 5\n\
-             r0 A5 60 1: place 0\n\
+            FETCHED,
+            "r0 A5 60 1: place 0\n\
              r0 A7: head 1\n\
-             r0 A4: place 1 buffer 6\n\
+             r0 A4: place 1 buffer 2\n\
              place\titem\towner\tword\tbuffer\n\
-             0\t0\tring\tDD EOP\t5\tnext\n\
+             0\t0\tring\tDD EOP\t1\tnext\n\
              1\t1\tctl\t-\t-\thead\tuse\n\
              2\t-\tdrv\tany\t-\ttail\tfill\tknown\n",
             EMPTY,

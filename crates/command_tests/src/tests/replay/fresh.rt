@@ -5,71 +5,66 @@ use crate::tests::told::{Row, comes_to_text, each_comes_to};
 
 /// Lists and their output, written by hand.
 const LISTS: &[Row] = &[
-    Row {
-        words: &["replay", "--lists"],
-        input: "r0 A1 5\n# end\nr0 A1 6\nr0 A2\n# end\n",
-        output: "r0 A1 place 0\nmoves 1 of 1\nr0 A1 place 0\nr0 A2 tail 1\nmoves 2 of 2\n",
-        faults: "",
-    },
+    (
+        &["replay", "--lists"],
+        "r0 A1 5\n# end\nr0 A1 6\nr0 A2\n# end\n",
+        Ok("r0 A1 place 0\nmoves 1 of 1\nr0 A1 place 0\nr0 A2 tail 1\nmoves 2 of 2\n"),
+    ),
     // without the option such a line is a comment
-    Row {
-        words: &["replay"],
-        input: "r0 A1 5\n# end\nr0 A1 6\nr0 A2\n# end\n",
-        output: "r0 A1 place 0\nr0 A1 place 1\nr0 A2 tail 2\nmoves 3 of 3\n",
-        faults: "",
-    },
+    (
+        &["replay"],
+        "r0 A1 5\n# end\nr0 A1 6\nr0 A2\n# end\n",
+        Ok("r0 A1 place 0\nr0 A1 place 1\nr0 A2 tail 2\nmoves 3 of 3\n"),
+    ),
     // the input ends the last list, if it has moves
-    Row {
-        words: &["replay", "--lists"],
-        input: "r0 A1 5\n# end\n# r0 A9\nr0 A2",
-        output: "r0 A1 place 0\nmoves 1 of 1\nr0 A2 tail 0\nmoves 1 of 1\n",
-        faults: "",
-    },
-    Row {
-        words: &["replay", "--lists"],
-        input: "# end\nr0 A2\n# end\n\n# no move\n",
-        output: "moves 0 of 0\nr0 A2 tail 0\nmoves 1 of 1\n",
-        faults: "",
-    },
-    Row {
-        words: &["replay", "--lists"],
-        input: "r0 A2\n# end",
-        output: "r0 A2 tail 0\nmoves 1 of 1\n",
-        faults: "",
-    },
-    Row {
-        words: &["replay", "--lists"],
-        input: "",
-        output: "",
-        faults: "",
-    },
+    (
+        &["replay", "--lists"],
+        "r0 A1 5\n# end\n# r0 A9\nr0 A2",
+        Ok("r0 A1 place 0\nmoves 1 of 1\nr0 A2 tail 0\nmoves 1 of 1\n"),
+    ),
+    (
+        &["replay", "--lists"],
+        "# end\nr0 A2\n# end\n\n# no move\n",
+        Ok("moves 0 of 0\nr0 A2 tail 0\nmoves 1 of 1\n"),
+    ),
+    (
+        &["replay", "--lists"],
+        "r0 A2\n# end",
+        Ok("r0 A2 tail 0\nmoves 1 of 1\n"),
+    ),
+    (&["replay", "--lists"], "", Ok("")),
     // other comments end no list
-    Row {
-        words: &["replay", "--lists"],
-        input: "r0 A1 5\n#end\n# end \n# ends\nr0 A2\n",
-        output: "r0 A1 place 0\nr0 A2 tail 1\nmoves 2 of 2\n",
-        faults: "",
-    },
+    (
+        &["replay", "--lists"],
+        "r0 A1 5\n#end\n# end \n# ends\nr0 A2\n",
+        Ok("r0 A1 place 0\nr0 A2 tail 1\nmoves 2 of 2\n"),
+    ),
     // each list has the selected form
-    Row {
-        words: &["replay", "--lists", "--registers"],
-        input: "r0 A1 5\nr0 A2\n# end\nr0 A2\n",
-        output: "r0 A1 place 0\nRDH 0 RDT 0 RXDCTL.ENABLE 1\nr0 A2 tail 1\nRDH 0 RDT 1 RXDCTL.ENABLE 1\nmoves 2 of 2\nr0 A2 tail 0\nRDH 0 RDT 0 RXDCTL.ENABLE 1\nmoves 1 of 1\n",
-        faults: "",
-    },
+    (
+        &["replay", "--lists", "--registers"],
+        "r0 A1 5\nr0 A2\n# end\nr0 A2\n",
+        Ok(
+            "r0 A1 place 0\n\
+             RDH 0 RDT 0 RXDCTL.ENABLE 1\n\
+             r0 A2 tail 1\n\
+             RDH 0 RDT 1 RXDCTL.ENABLE 1\n\
+             moves 2 of 2\n\
+             r0 A2 tail 0\n\
+             RDH 0 RDT 0 RXDCTL.ENABLE 1\n\
+             moves 1 of 1\n",
+        ),
+    ),
     // a refusal has the line of the whole input, and nothing is printed
-    Row {
-        words: &["replay", "--lists"],
-        input: "r0 A2\n# end\n\nr0 A9\n# end\n",
-        output: "",
-        faults: "line 4: refused 14 move\n",
-    },
-    Row {
-        words: &["replay", "--lists", "--ring", "12"],
-        input: "",
-        output: "",
-        faults: "refused 12 ring length\n",
-    },
+    (
+        &["replay", "--lists"],
+        "r0 A2\n# end\n\nr0 A9\n# end\n",
+        Err("line 4: refused 14 move\n"),
+    ),
+    (
+        &["replay", "--lists", "--ring", "12"],
+        "",
+        Err("refused 12 ring length\n"),
+    ),
 ];
 
 #[test]
@@ -85,7 +80,7 @@ const TOLD: &str =
 
 #[test]
 fn what_schedules_prints_is_replayed_as_it_is(rt: HostRuntime) {
-    let lists = outcome_of(&rt, rt.alloc(), SCHEDULES, b"").expect(&rt, "a run");
+    let lists = outcome_of(&rt, rt.alloc(), SCHEDULES, b"");
     let words = &["replay", "--lists"];
     comes_to_text(&rt, rt.alloc(), words, lists.text(), (TOLD, ""))
 }

@@ -1,6 +1,6 @@
 //! Lists of moves with the output of `replay`.
 
-use crate::tests::replay::transcripts::{Transcript, each_is_so};
+use crate::tests::replay::transcripts::{FETCHED, Transcript, each_is_so};
 
 /// Two frames are posted and sent, up to the report that the second asks for; and the moves after it.
 const TWO_POSTED: &str = "t0 B1 1 60 1 0 60: place 0\n\
@@ -126,13 +126,8 @@ fn lists_of_moves_of_frames_are_answered(rt: HostRuntime) {
     each_is_so(&rt, rt.alloc(), FRAMES)
 }
 
-/// A disabling is requested in the middle of a frame.
-const MIDDLE: &str = "r0 A1 1: place 0\n\
-     r0 A1 2: place 1\n\
-     r0 A2: tail 2\n\
-     r0 A3: free 2\n\
-     r0 A4: place 0 buffer 1\n\
-     r0 A5 1024 0: place 0\n\
+/// After `FETCHED`, a disabling is requested in the middle of a frame.
+const MIDDLE: &str = "r0 A5 1024 0: place 0\n\
      r0 A7: head 1\n\
      r0 C5: control 3\n\
      r0 C2: control 3\n\
@@ -148,17 +143,21 @@ const MIDDLE: &str = "r0 A1 1: place 0\n\
      r0 C6: buffer 2\n\
      r0 C6: not enabled\n";
 
-/// The queue is then renewed, and receives a frame.
+/// The queue is then renewed, with a buffer posted.
 const RENEWED: &str = "r0 C9: head 0\n\
      r0 C10: tail 0\n\
      r0 C11: quiet 0\n\
      r0 A1 9: place 0\n\
-     r0 A2: tail 1\n\
-     r0 C1: control 1\n\
+     r0 A2: tail 1\n";
+
+/// A queue is enabled.
+const ENABLED: &str = "r0 C1: control 1\n\
      r0 C2: control 1\n\
      r0 C3: control 2\n\
-     r0 C4: control 2\n\
-     r0 A3: free 1\n\
+     r0 C4: control 2\n";
+
+/// The renewed queue receives a frame.
+const RECEIVED: &str = "r0 A3: free 1\n\
      r0 A4: place 0 buffer 9\n\
      r0 A5 60 1: place 0\n\
      r0 A6: buffer 9 length 60 eop 1\n\
@@ -167,16 +166,13 @@ const RENEWED: &str = "r0 C9: head 0\n\
 /// Lists for queues that are enabled, disabled and renewed.
 const EPOCHS: &[Transcript] = &[
     // a disabling is requested in the middle of a frame
-    (&["replay"], &[MIDDLE, "moves 16 of 20\n"]),
+    (&["replay"], &[FETCHED, MIDDLE, "moves 16 of 20\n"]),
     // a queue is enabled and disabled
     (
         &["replay", "--off"],
         &[
-            "r0 C1: control 1\n\
-             r0 C2: control 1\n\
-             r0 C3: control 2\n\
-             r0 C4: control 2\n\
-             r0 C5: control 3\n\
+            ENABLED,
+            "r0 C5: control 3\n\
              r0 C2: control 3\n\
              r0 C3: control 0\n\
              r0 C4: control 0\n\
@@ -185,7 +181,7 @@ const EPOCHS: &[Transcript] = &[
         ],
     ),
     // a queue is renewed
-    (&["replay"], &[MIDDLE, RENEWED]),
+    (&["replay"], &[FETCHED, MIDDLE, RENEWED, ENABLED, RECEIVED]),
     // a transmit queue is disabled within a frame; the owed report comes first
     (
         &["replay"],

@@ -45,7 +45,7 @@ const LINES: &[&str] = &[
 
 /// What a page has between its constant parts.
 fn data_of<R: Host>(rt: &R, alloc: Global, words: &[&str], input: &str) -> String {
-    let told = outcome_of(rt, alloc, words, input.as_bytes()).expect(rt, "a run");
+    let told = outcome_of(rt, alloc, words, input.as_bytes());
     let inside = told
         .text()
         .strip_prefix(PAGE_HEAD)
@@ -66,7 +66,7 @@ fn a_page_has_its_data(rt: HostRuntime) {
 #[test]
 fn a_page_of_drawn_lists_is_that_of_replay(rt: HostRuntime) {
     let words = ["schedules", "--seed", "1", "--moves", "30", "--count", "3"];
-    let lists = outcome_of(&rt, rt.alloc(), &words, b"").expect(&rt, "a run");
+    let lists = outcome_of(&rt, rt.alloc(), &words, b"");
     let replayed = data_of(
         &rt,
         rt.alloc(),

@@ -189,7 +189,7 @@ fn asked_at(alloc: Global, at: usize) -> Result<String, AllocError> {
 
 /// The output of a list ends with this text, with status 0.
 fn ends_so<R: Host>(rt: &R, alloc: Global, words: &[&str], list: &str, end: &str) {
-    let told = outcome_of(rt, alloc, words, list.as_bytes()).expect(rt, "a run");
+    let told = outcome_of(rt, alloc, words, list.as_bytes());
     let is_end = told.text().ends_with(end);
     same(rt, (words, end, told.status, is_end), (words, end, 0, true));
 }
@@ -208,7 +208,7 @@ fn a_disabling_at_every_step_makes_as_many_moves(rt: HostRuntime) {
 
 /// A list prints this.
 fn prints<R: Host>(rt: &R, alloc: Global, words: &[&str], list: &str, wanted: &str) {
-    let told = outcome_of(rt, alloc, words, list.as_bytes()).expect(rt, "a run");
+    let told = outcome_of(rt, alloc, words, list.as_bytes());
     same(rt, (words, told.text()), (words, wanted));
 }
 

@@ -8,6 +8,13 @@ use std::alloc::{AllocError, Global};
 /// for which `r0 A2 tail 1` is printed) or with its object; or, after `> `, only input; or only output.
 pub type Transcript = (&'static [&'static str], &'static [&'static str]);
 
+/// Two buffers are posted and published, and the controller fetches the first.
+pub const FETCHED: &str = "r0 A1 1: place 0\n\
+     r0 A1 2: place 1\n\
+     r0 A2: tail 2\n\
+     r0 A3: free 2\n\
+     r0 A4: place 0 buffer 1\n";
+
 /// The input and the output of a run.
 #[derive(Drop)]
 struct Sides {

@@ -2,13 +2,13 @@
 use crate::tests::search::second::{meet_along, second_search};
 use crate::tests::wanted::{holds, same};
 use ring_machine::Completion;
-use schedules::covering::{CoverList, Pair, Scope, Search, Side, is_data};
+use schedules::covering::{CoverList, Pair, Scope, Search, SearchedQueue, is_data};
 use std::alloc::Global;
 use std::collections::HashSet;
 use std::process::Abort;
 
 // All that a new queue can do.
-fn all_of(side: Side) -> Scope {
+fn all_of(side: SearchedQueue) -> Scope {
     Scope {
         side,
         device_only: false,
@@ -16,7 +16,7 @@ fn all_of(side: Side) -> Scope {
 }
 
 // What an enabled queue can do with silicon and its driver.
-fn data_of(side: Side) -> Scope {
+fn data_of(side: SearchedQueue) -> Scope {
     Scope {
         side,
         device_only: true,
@@ -27,7 +27,7 @@ fn whole_search<A: Abort>(rt: &A, alloc: Global, scope: Scope) -> Search {
     let mut search = Search::new(alloc, scope).expect(rt, "a search");
     for _ in 0..1000 {
         if !search.is_whole() {
-            search.go_on(alloc, 1000).expect(rt, "a search's room");
+            search.expand(alloc, 1000).expect(rt, "a search's room");
         }
     }
     search
@@ -66,32 +66,32 @@ fn is_searched_alike<A: Abort>(rt: &A, alloc: Global, scope: Scope, search: &Sea
 fn leaves_nothing_out<A: Abort>(rt: &A, alloc: Global, scope: Scope, pairs: usize) {
     let search = whole_search(rt, alloc, scope);
     holds(rt, search.is_whole());
-    same(rt, search.gone_over(), search.states());
+    same(rt, search.expanded(), search.states());
     same(rt, search.pairs(), pairs);
     is_searched_alike(rt, alloc, scope, &search, pairs)
 }
 
 // The same for all moves of a queue.
-fn leaves_no_move_out<A: Abort>(rt: &A, alloc: Global, side: Side, pairs: usize) {
+fn leaves_no_move_out<A: Abort>(rt: &A, alloc: Global, side: SearchedQueue, pairs: usize) {
     leaves_nothing_out(rt, alloc, all_of(side), pairs)
 }
 
 #[test]
-fn a_receive_queue_is_gone_over(rt: HostRuntime) {
-    leaves_no_move_out(&rt, rt.alloc(), Side::Receive, 227);
+fn a_receive_queue_is_expanded(rt: HostRuntime) {
+    leaves_no_move_out(&rt, rt.alloc(), SearchedQueue::Receive, 227);
 }
 
-const BY_STATUS: Side = Side::Transmit(Completion::Status);
+const BY_STATUS: SearchedQueue = SearchedQueue::Transmit(Completion::Status);
 
 #[test]
-fn a_transmit_queue_is_gone_over(rt: HostRuntime) {
+fn a_transmit_queue_is_expanded(rt: HostRuntime) {
     leaves_no_move_out(&rt, rt.alloc(), BY_STATUS, 205);
 }
 
-const BY_HEAD: Side = Side::Transmit(Completion::Head);
+const BY_HEAD: SearchedQueue = SearchedQueue::Transmit(Completion::Head);
 
 #[test]
-fn a_transmit_queue_with_a_head_word_is_gone_over(rt: HostRuntime) {
+fn a_transmit_queue_with_a_head_word_is_expanded(rt: HostRuntime) {
     leaves_no_move_out(&rt, rt.alloc(), BY_HEAD, 222);
 }
 
@@ -106,9 +106,9 @@ fn are_data<A: Abort>(rt: &A, lists: &[CoverList]) {
 
 // Only silicon's moves, in each direction and with either way to report.
 #[test]
-fn queues_of_silicon_are_gone_over(rt: HostRuntime) {
+fn queues_of_silicon_are_expanded(rt: HostRuntime) {
     let alloc = rt.alloc();
-    leaves_nothing_out(&rt, alloc, data_of(Side::Receive), 13);
+    leaves_nothing_out(&rt, alloc, data_of(SearchedQueue::Receive), 13);
     leaves_nothing_out(&rt, alloc, data_of(BY_STATUS), 16);
     leaves_nothing_out(&rt, alloc, data_of(BY_HEAD), 16);
     let search = whole_search(&rt, alloc, data_of(BY_HEAD));
@@ -130,7 +130,7 @@ fn grow_to<A: Abort>(rt: &A, lists: &[CoverList], last: usize) {
 #[test]
 fn lists_stand_by_length(rt: HostRuntime) {
     let alloc = rt.alloc();
-    let search = whole_search(&rt, alloc, all_of(Side::Receive));
+    let search = whole_search(&rt, alloc, all_of(SearchedQueue::Receive));
     let lists = search.lists(alloc).expect(&rt, "lists");
     same(&rt, lists.len(), 207);
     grow_to(&rt, lists.as_slice(), 20);
@@ -139,9 +139,9 @@ fn lists_stand_by_length(rt: HostRuntime) {
 // A search without a step has met nothing, and has no list.
 #[test]
 fn a_new_search_has_no_list(rt: HostRuntime) {
-    let search = Search::new(rt.alloc(), all_of(Side::Receive)).expect(&rt, "a search");
+    let search = Search::new(rt.alloc(), all_of(SearchedQueue::Receive)).expect(&rt, "a search");
     holds(&rt, !search.is_whole());
-    let counts = (search.states(), search.gone_over(), search.pairs());
+    let counts = (search.states(), search.expanded(), search.pairs());
     same(&rt, counts, (1, 0, 0));
     let lists = search.lists(rt.alloc()).expect(&rt, "lists");
     same(&rt, lists.len(), 0);

@@ -4,7 +4,7 @@ use ring_machine::{
     Completion, ControlStep, ControllerState, DriverState, Move, RxStep, SegmentDescriptor,
     SegmentLength, TxStep,
 };
-use schedules::covering::{Pair, Scope, Side, Told, moves_tried};
+use schedules::covering::{OutcomeKind, Pair, Scope, SearchedQueue, moves_tried};
 use std::alloc::{AllocError, Global};
 use std::collections::HashSet;
 
@@ -70,7 +70,7 @@ const NEW: Queue = Queue {
 
 impl Queue {
     fn new(scope: Scope) -> Queue {
-        let by_head = matches!(scope.side, Side::Transmit(Completion::Head));
+        let by_head = matches!(scope.side, SearchedQueue::Transmit(Completion::Head));
         if !scope.device_only {
             return Queue { by_head, ..NEW };
         }
@@ -180,7 +180,7 @@ impl Queue {
         self.driver.is_open() && self.out < 7
     }
 
-    fn shaken(self, step: ControlStep) -> Option<Queue> {
+    fn after_control_step(self, step: ControlStep) -> Option<Queue> {
         let enables = self.loaded == 1 && !self.is_serving();
         let disables = self.loaded == 3 && self.is_serving() && self.is_settled();
         match step {
@@ -220,96 +220,98 @@ impl Queue {
     }
 
     // The moves of both directions: the handshake, reclaiming, and the clearing of head and tail.
-    fn stopped(self) -> Option<(Told, Queue)> {
+    fn stopped(self) -> Option<(OutcomeKind, Queue)> {
         let may = self.driver.is_stopped() && self.out > 0;
         let left = self.out.saturating_sub(1);
         let bare = self.bare(self.driver);
-        may.then_some((Told::Buffer, Queue { out: left, ..bare }))
+        may.then_some((OutcomeKind::Buffer, Queue { out: left, ..bare }))
     }
 
-    fn head_cleared(self) -> Option<(Told, Queue)> {
+    fn head_cleared(self) -> Option<(OutcomeKind, Queue)> {
         let may = self.driver.is_stopped() && self.out == 0;
-        may.then_some((Told::Head, self.bare(DriverState::Cleared)))
+        may.then_some((OutcomeKind::Head, self.bare(DriverState::Cleared)))
     }
 
-    fn controlled(self, step: ControlStep) -> Option<(Told, Queue)> {
-        Some((Told::Control, self.shaken(step)?))
+    fn controlled(self, step: ControlStep) -> Option<(OutcomeKind, Queue)> {
+        Some((OutcomeKind::Control, self.after_control_step(step)?))
     }
 
     // The driver stores the tail, if it may.
-    fn published(self, may: bool) -> Option<(Told, Queue)> {
-        let told = (
-            Told::Tail,
+    fn published(self, may: bool) -> Option<(OutcomeKind, Queue)> {
+        let outcome = (
+            OutcomeKind::Tail,
             Queue {
                 tail: self.out,
                 ..self
             },
         );
-        (self.driver.is_open() && may).then_some(told)
+        (self.driver.is_open() && may).then_some(outcome)
     }
 
     // The controller loads the tail.
-    fn tail_seen(self, told: Told) -> Option<(Told, Queue)> {
+    fn tail_seen(self, outcome: OutcomeKind) -> Option<(OutcomeKind, Queue)> {
         let seen = Queue {
             known: self.tail,
             ..self
         };
-        self.is_serving().then_some((told, seen))
+        self.is_serving().then_some((outcome, seen))
     }
 
     // The controller fetches the next descriptor, if it may.
-    fn fetched(self, told: Told, may: bool) -> Option<(Told, Queue)> {
+    fn fetched(self, outcome: OutcomeKind, may: bool) -> Option<(OutcomeKind, Queue)> {
         let held = Queue { held: true, ..self };
-        (self.can_fetch() && may).then_some((told, held))
+        (self.can_fetch() && may).then_some((outcome, held))
     }
 
-    fn head_stored(self) -> Option<(Told, Queue)> {
+    fn head_stored(self) -> Option<(OutcomeKind, Queue)> {
         let stored = Queue {
             unstored: 0,
             ..self
         };
-        (self.is_serving() && !self.held).then_some((Told::Head, stored))
+        (self.is_serving() && !self.held).then_some((OutcomeKind::Head, stored))
     }
 
-    fn quieted(self) -> Option<(Told, Queue)> {
+    fn quieted(self) -> Option<(OutcomeKind, Queue)> {
         let quiet = Queue {
             quiet: true,
             ..self
         };
         let may = self.is_serving() && !self.held && !self.middle;
-        may.then_some((Told::Quiet, quiet))
+        may.then_some((OutcomeKind::Quiet, quiet))
     }
 
-    fn tail_cleared(self, next: DriverState) -> Option<(Told, Queue)> {
-        let cleared = (Told::Tail, self.bare(next));
+    fn tail_cleared(self, next: DriverState) -> Option<(OutcomeKind, Queue)> {
+        let cleared = (OutcomeKind::Tail, self.bare(next));
         self.driver.is_cleared().then_some(cleared)
     }
 
-    fn quiet_cleared(self) -> Option<(Told, Queue)> {
+    fn quiet_cleared(self) -> Option<(OutcomeKind, Queue)> {
         let loud = Queue {
             quiet: false,
             ..self.bare(DriverState::New)
         };
-        self.driver.is_tailed().then_some((Told::Quiet, loud))
+        self.driver
+            .is_tailed()
+            .then_some((OutcomeKind::Quiet, loud))
     }
 
-    fn received(self, step: RxStep<SegmentLength>) -> Option<(Told, Queue)> {
+    fn received(self, step: RxStep<SegmentLength>) -> Option<(OutcomeKind, Queue)> {
         let _transmit: Option<TxStep<SegmentDescriptor>> = None;
         match step {
             RxStep::Post(_) => {
                 let more = self.posted(false, false);
-                self.has_room().then_some((Told::Place, more))
+                self.has_room().then_some((OutcomeKind::Place, more))
             }
             RxStep::Publish => self.published(true),
-            RxStep::Look => self.tail_seen(Told::Free),
-            RxStep::Fetch => self.fetched(Told::Fetched, !self.quiet),
-            RxStep::Store(_, eop) => self.held.then_some((Told::Place, self.stored(eop))),
+            RxStep::Look => self.tail_seen(OutcomeKind::Free),
+            RxStep::Fetch => self.fetched(OutcomeKind::Fetched, !self.quiet),
+            RxStep::Store(_, eop) => self.held.then_some((OutcomeKind::Place, self.stored(eop))),
             RxStep::Take => self.taken(),
             RxStep::Head => self.head_stored(),
             RxStep::Control(control) => self.controlled(control),
             RxStep::Reclaim => self.stopped(),
             RxStep::StoreQuiet => self.quieted(),
-            RxStep::LoadQuiet => Some((Told::Quiet, self)),
+            RxStep::LoadQuiet => Some((OutcomeKind::Quiet, self)),
             RxStep::ClearHead => self.head_cleared(),
             RxStep::ClearTail => self.tail_cleared(DriverState::Tailed),
             RxStep::ClearQuiet => self.quiet_cleared(),
@@ -334,38 +336,38 @@ impl Queue {
         }
     }
 
-    fn taken(self) -> Option<(Told, Queue)> {
+    fn taken(self) -> Option<(OutcomeKind, Queue)> {
         if !self.driver.is_live() || self.out == 0 {
             return None;
         }
         if self.item(0).back {
-            Some((Told::Taken, self.without_first()))
+            Some((OutcomeKind::Taken, self.without_first()))
         } else {
-            Some((Told::NothingTaken, self))
+            Some((OutcomeKind::NothingTaken, self))
         }
     }
 
-    fn cleaned(self) -> Option<(Told, Queue)> {
+    fn cleaned(self) -> Option<(OutcomeKind, Queue)> {
         let may = self.driver.is_live() && self.out > 0 && self.item(0).seen;
-        may.then_some((Told::Buffer, self.without_first()))
+        may.then_some((OutcomeKind::Buffer, self.without_first()))
     }
 
-    fn report_cleared(self) -> Option<(Told, Queue)> {
+    fn report_cleared(self) -> Option<(OutcomeKind, Queue)> {
         let may = self.by_head && self.driver.is_tailed();
-        may.then_some((Told::Head, self.bare(DriverState::New)))
+        may.then_some((OutcomeKind::Head, self.bare(DriverState::New)))
     }
 
-    fn transmitted(self, step: TxStep<SegmentDescriptor>) -> Option<(Told, Queue)> {
+    fn transmitted(self, step: TxStep<SegmentDescriptor>) -> Option<(OutcomeKind, Queue)> {
         let _receive: Option<RxStep<SegmentLength>> = None;
         match step {
             TxStep::Post(posted) => {
                 let more = self.posted(posted.eop(), posted.rs());
-                self.has_room().then_some((Told::Place, more))
+                self.has_room().then_some((OutcomeKind::Place, more))
             }
             TxStep::Publish => self.published(self.is_ended()),
-            TxStep::Look => self.tail_seen(Told::Ready),
-            TxStep::Fetch => self.fetched(Told::Sending, !self.owed),
-            TxStep::Send => self.held.then_some((Told::Head, self.sent())),
+            TxStep::Look => self.tail_seen(OutcomeKind::Ready),
+            TxStep::Fetch => self.fetched(OutcomeKind::Sending, !self.owed),
+            TxStep::Send => self.held.then_some((OutcomeKind::Head, self.sent())),
             TxStep::Report => self.owed.then_some(self.reported()),
             TxStep::LoadReport => self.looked(),
             TxStep::Clean => self.cleaned(),
@@ -390,7 +392,7 @@ impl Queue {
         }
     }
 
-    fn reported(self) -> (Told, Queue) {
+    fn reported(self) -> (OutcomeKind, Queue) {
         let place = self.used().saturating_sub(1);
         let stored = self.with(
             place,
@@ -399,13 +401,13 @@ impl Queue {
                 ..self.item(place)
             },
         );
-        let told = if self.by_head {
-            Told::Head
+        let outcome = if self.by_head {
+            OutcomeKind::Head
         } else {
-            Told::Place
+            OutcomeKind::Place
         };
         (
-            told,
+            outcome,
             Queue {
                 owed: false,
                 ..stored
@@ -414,7 +416,7 @@ impl Queue {
     }
 
     // The driver loads the oldest outstanding report.
-    fn looked(self) -> Option<(Told, Queue)> {
+    fn looked(self) -> Option<(OutcomeKind, Queue)> {
         if !self.driver.is_live() {
             return None;
         }
@@ -427,16 +429,16 @@ impl Queue {
             }
             if is_new && item.rs {
                 return Some(if item.told {
-                    (Told::Reported, before)
+                    (OutcomeKind::Reported, before)
                 } else {
-                    (Told::NothingReported, self)
+                    (OutcomeKind::NothingReported, self)
                 });
             }
         }
         None
     }
 
-    fn answer(self, action: Move) -> Option<(Told, Queue)> {
+    fn answer(self, action: Move) -> Option<(OutcomeKind, Queue)> {
         match action {
             Move::Receive(_, step) => self.received(step),
             Move::Transmit(_, step) => self.transmitted(step),
@@ -444,12 +446,12 @@ impl Queue {
     }
 
     /// The pair that this move meets on this queue with this outcome.
-    fn pair(&self, action: Move, told: Told) -> Pair {
+    fn pair(&self, action: Move, outcome: OutcomeKind) -> Pair {
         Pair {
             action,
             driver: self.driver,
             controller: self.controller,
-            told,
+            outcome,
         }
     }
 
@@ -493,11 +495,11 @@ pub fn meet_along(
 ) -> Result<(), AllocError> {
     let mut queue = Queue::new(scope);
     for action in moves {
-        let (told, later) = match queue.answer(*action) {
-            Some((told, later)) => (told, later),
-            None => (Told::NotEnabled, queue),
+        let (outcome, later) = match queue.answer(*action) {
+            Some((outcome, later)) => (outcome, later),
+            None => (OutcomeKind::NotEnabled, queue),
         };
-        numbers.insert(queue.pair(*action, told).number())?;
+        numbers.insert(queue.pair(*action, outcome).number())?;
         queue = later;
     }
     Ok(())
@@ -534,11 +536,11 @@ pub fn second_search(alloc: Global, scope: Scope) -> Result<Second, AllocError> 
             if queue.is_too_much(*action) || (scope.device_only && is_own(*action)) {
                 continue;
             }
-            let (told, later) = match queue.answer(*action) {
-                Some((told, later)) => (told, Some(later)),
-                None => (Told::NotEnabled, None),
+            let (outcome, later) = match queue.answer(*action) {
+                Some((outcome, later)) => (outcome, Some(later)),
+                None => (OutcomeKind::NotEnabled, None),
             };
-            let pair = queue.pair(*action, told);
+            let pair = queue.pair(*action, outcome);
             if numbers.insert(pair.number())? {
                 second.pairs.push(pair)?;
             }

@@ -10,7 +10,7 @@ use Rattle.controller.proofs.sending.send_frame.Goals as goal
 use Rattle.controller.proofs.sending.send_frame.Goals.{After-owes_report}
 
 pub loop-init : goal.loop-init
-loop-init c = let r = c.requires in starts _ _ r.idle.unheld r.idle.paid (whole-unfinished carried (sent c.args.end.now) r.idle.between) r.serving r.ready r.begun r.room
+loop-init c = let r = c.requires in starts _ _ r.idle.unheld r.idle.paid (whole-unfinished carried (sent c.args.end.now) r.idle.at_frame_end) r.serving r.ready r.begun r.room
 
 pub loop-preserved : goal.loop-preserved
 loop-preserved c = sends_on _ _ _ _ _ _ c.loop.invariant (subst (λ (ends : Bool). SentBytes c.loop.end c.loop.arena ends c.send_segment.new.end c.send_segment.new.arena) c.loop-test.true c.send_segment.ensures)
@@ -37,7 +37,7 @@ pub returns-then-owes_report-clause-idle : goal.returns-then-owes_report-clause-
 returns-then-owes_report-clause-idle c =
     let last = ended (goal.at.returns-then-owes_report-clause-idle c).After-owes_report in record {
       unheld = ap (λ (x : TxControlled). x.held) c.report.ensures.record ∙ ap (λ (x : TxControlled). x.held) last.same;
-      between = ap (λ (x : TxControlled). are_whole x.completed) c.report.ensures.record ∙ sent_whole _ _ _ _ last;
+      at_frame_end = ap (λ (x : TxControlled). are_whole x.completed) c.report.ensures.record ∙ sent_whole _ _ _ _ last;
       head = λ _. same_head c.send_segment.new.end c.report.new.self last.head (ap (λ (e : ControllerSide). e.table) c.report.ensures.step) (ap (λ (x : TxControlled). x.head) c.report.ensures.record) (ap (λ (x : TxControlled). x.completed) c.report.ensures.record);
       paid = ap (λ (x : TxControlled). x.barred) c.report.ensures.record;
     }
@@ -52,7 +52,7 @@ pub returns-else-owes_report-clause-idle : goal.returns-else-owes_report-clause-
 returns-else-owes_report-clause-idle c =
     let last = ended (goal.at.returns-else-owes_report-clause-idle c).After-owes_report in record {
       unheld = ap (λ (x : TxControlled). x.held) last.same;
-      between = sent_whole _ _ _ _ last;
+      at_frame_end = sent_whole _ _ _ _ last;
       head = λ _. last.head;
       paid = sym c.owes_report.ensures ∙ c.if-owes_report.false;
     }

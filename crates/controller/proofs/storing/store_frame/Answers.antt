@@ -8,7 +8,7 @@ use Rattle.controller.proofs.Growing.{begins, goes_on, can_go_on, can_end, ends_
 use Rattle.controller.proofs.storing.store_frame.Goals as goal
 
 pub loop-rest-init : goal.loop-rest-init
-loop-rest-init c = let r = c.requires in let least = r.frame.0 in begins _ _ _ r.idle.unheld (whole-unfinished piece_of (stored c.args.end.now) r.idle.between) (omega arith)
+loop-rest-init c = let r = c.requires in let least = r.frame.0 in begins _ _ _ r.idle.unheld (whole-unfinished piece_of (stored c.args.end.now) r.idle.at_frame_end) (omega arith)
 
 pub store_piece-requires-clause-free : goal.store_piece-requires-clause-free
 store_piece-requires-clause-free c = let r = c.requires in
@@ -32,15 +32,15 @@ store_piece-requires-2-clause-follows c = let r = c.requires in
 
 pub returns-clause-stored : goal.returns-clause-stored
 returns-clause-stored c = let r = c.requires in let least = r.frame.0 in
-    let done = ends_frame_with _ _ _ _ _ _ _ (omega arith) (omega arith) (whole-unfinished piece_of (stored c.args.end.now) r.idle.between) c.loop-rest.invariant c.loop-rest-test.false c.store_piece-2.ensures c.set_head.ensures.step c.set_head.ensures.record in done.0
+    let done = ends_frame_with _ _ _ _ _ _ _ (omega arith) (omega arith) (whole-unfinished piece_of (stored c.args.end.now) r.idle.at_frame_end) c.loop-rest.invariant c.loop-rest-test.false c.store_piece-2.ensures c.set_head.ensures.step c.set_head.ensures.record in done.0
 
 pub returns-clause-idle : goal.returns-clause-idle
 returns-clause-idle c = let r = c.requires in let least = r.frame.0 in
-    let done = ends_frame_with _ _ _ _ _ _ _ (omega arith) (omega arith) (whole-unfinished piece_of (stored c.args.end.now) r.idle.between) c.loop-rest.invariant c.loop-rest-test.false c.store_piece-2.ensures c.set_head.ensures.step c.set_head.ensures.record in done.1
+    let done = ends_frame_with _ _ _ _ _ _ _ (omega arith) (omega arith) (whole-unfinished piece_of (stored c.args.end.now) r.idle.at_frame_end) c.loop-rest.invariant c.loop-rest-test.false c.store_piece-2.ensures c.set_head.ensures.step c.set_head.ensures.record in done.1
 
 pub returns-clause-own : goal.returns-clause-own
 returns-clause-own c = let r = c.requires in let least = r.frame.0 in
-    let done = ends_frame_with _ _ _ _ _ _ _ (omega arith) (omega arith) (whole-unfinished piece_of (stored c.args.end.now) r.idle.between) c.loop-rest.invariant c.loop-rest-test.false c.store_piece-2.ensures c.set_head.ensures.step c.set_head.ensures.record in done.2
+    let done = ends_frame_with _ _ _ _ _ _ _ (omega arith) (omega arith) (whole-unfinished piece_of (stored c.args.end.now) r.idle.at_frame_end) c.loop-rest.invariant c.loop-rest-test.false c.store_piece-2.ensures c.set_head.ensures.step c.set_head.ensures.record in done.2
 
 pub returns-clause-state : goal.returns-clause-state
 returns-clause-state c = ap (λ (x : RxControlled). x.state) c.set_head.ensures.record ∙ (ap (λ (x : RxControlled). x.state) c.store_piece-2.ensures.stored.grew ∙ ap (λ (x : RxControlled). x.state) c.loop-rest.invariant.grew)

@@ -4,7 +4,7 @@ use Rattle.ring_model.specs.shared.Handshakes.{is_new}
 use Rattle.shared_ring.specs.Ends.{DriverSide, driver_of, driver_record, driver_state}
 use Rattle.shared_ring.specs.Words.{control_word}
 use Rattle.driver.specs.Handshake.{AskedEnabling}
-use Rattle.driver.proofs.Shaking.{enabling-new, enabling-asked}
+use Rattle.driver.proofs.ControlStepping.{enabling-new, enabling-asked}
 use Rattle.driver.proofs.handshake.enable.Goals as goal
 use Rattle.driver.proofs.handshake.enable.Goals.{then-is_new, else-is_new}
 

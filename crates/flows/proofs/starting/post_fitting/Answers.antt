@@ -2,7 +2,7 @@ use Rattle.std.proofs.Common.{◌++◌, ap}
 use Rattle.rx_ring.specs.Records.{RxDriven}
 use Rattle.rx_ring.specs.Ends.{posted, fill_place}
 use Rattle.shared_ring.specs.declared.events.DriverEvent.TheVariants.{Posted}
-use Rattle.flows.proofs.Loads.{posted-one, posts-kept}
+use Rattle.flows.proofs.FlowDrivers.{posted-one, posts-kept}
 use Rattle.flows.proofs.starting.post_fitting.Goals as goal
 
 pub loop-stash-preserved : goal.loop-stash-preserved

@@ -1,6 +1,6 @@
 use Rattle.std.proofs.Common.{rules, ◌∙◌, ◌++◌}
 use Rattle.rx_ring.specs.Ends.{posted}
-use Rattle.flows.proofs.Loads.{posted-trans, stocks-on}
+use Rattle.flows.proofs.FlowDrivers.{posted-trans, stocks-on}
 use Rattle.flows.proofs.starting.stock_up.Goals as goal
 
 pub loop-taken-preserved : goal.loop-taken-preserved

@@ -2,7 +2,7 @@ use Rattle.std.proofs.Common.{rules, ◌≡◌, ap, length, subst, sym, arith}
 use Rattle.std.specs.Prelude.{slice_index_or}
 use denote.Param.Send.{sendable}
 use Rattle.flows.proofs.Sent.{driver_flow}
-use Rattle.forwarder.specs.Lines.{AreEnds}
+use Rattle.forwarder.specs.Rings.{AreEnds}
 use Rattle.forward_bench.proofs.Sent.{hot_flow}
 use Rattle.forward_bench.proofs.hot.forward_hot.Goals as goal
 

@@ -1,7 +1,7 @@
 use Rattle.std.proofs.Common.{rules, ◌≡◌, ◌∙◌, ◌<◌, length, get_or, ap, sym, subst, arith}
 use Rattle.pool.specs.Owned.{IsOf}
 use Rattle.forwarder.proofs.Plans.{drop-first, drop-later, drop-within}
-use Rattle.forwarder.specs.Lines.{AreEnds}
+use Rattle.forwarder.specs.Rings.{AreEnds}
 use Rattle.forward_bench.proofs.sides.make_sides.Goals as goal
 
 pub make_side-side-requires-clause-ends : goal.make_side-side-requires-clause-ends

@@ -2,8 +2,8 @@ use Rattle.std.proofs.Common.{rules, arith, ◌≡◌, ◌∙◌, [], ◌∷◌,
 use Rattle.std.proofs.lemmas.List.{take_all}
 use Rattle.driver.specs.receive.Returns.{numbers_of}
 use Rattle.driver.specs.transmit.Frames.{numbers_in}
-use Rattle.lending.specs.Lent.{GivenBack}
-use Rattle.lending.proofs.Giving.{exchanged-given, given-first, holds-first, holds-on}
+use Rattle.buffer_accounting.specs.Lent.{GivenBack}
+use Rattle.buffer_accounting.proofs.Giving.{exchanged-given, given-first, holds-first, holds-on}
 use Rattle.pool.specs.Hands.{HoldsAll}
 use Rattle.forwarder.proofs.abort.give_at_hand.Goals as goal
 

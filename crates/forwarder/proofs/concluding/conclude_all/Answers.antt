@@ -7,7 +7,7 @@ use Rattle.flows.specs.Keys.{ControllerKey, DriverKey, plan_of}
 use Rattle.flows.specs.Reports.{IsReport}
 use Rattle.forwarder.proofs.Places.{by-map}
 use Rattle.forwarder.proofs.Plans.{all-at, drop-first, drop-within, list-more}
-use Rattle.forwarder.proofs.Walking.{Grew, line-met, meets-on}
+use Rattle.forwarder.proofs.Walking.{Grew, flow_rings-met, meets-on}
 use Rattle.forwarder.proofs.Moving.{moved}
 use Rattle.forwarder.proofs.concluding.conclude_all.Goals as goal
 
@@ -19,9 +19,9 @@ conclude_flow-report-requires c =
       (
         all-at (λ f. is_over f.phase ≡ true) c.loop-driver.number c.args.drivers.items c.in-Some.driver _ (sym was.both.one.rest ∙ c.in-Some.ensures.steps.0) c.requires.over,
         (
-          line-met c.args.pool.now c.loop-driver.number (length c.args.lines.now) c.args.lines.now c.index-lines-number.result c.args.drivers.items (into_iter_items c.loop-driver.driver-iterator) (into_iter_items c.next.new.self) _ c.in-Some.driver
+          flow_rings-met c.args.pool.now c.loop-driver.number (length c.args.rings.now) c.args.rings.now c.index-rings-number.result c.args.drivers.items (into_iter_items c.loop-driver.driver-iterator) (into_iter_items c.next.new.self) _ c.in-Some.driver
               c.args.controllers.items (into_iter_items c.loop-driver.controllers) (into_iter_items c.next-in-loop-driver.new.self) _ c.in-Some-next.controller c.loop-driver.reports
-              c.requires.lines was.both (search rules) (search rules) c.in-Some.ensures.steps.0 other,
+              c.requires.rings was.both (search rules) (search rules) c.in-Some.ensures.steps.0 other,
           was.pool,
         ),
       ),
@@ -48,7 +48,7 @@ loop-driver-preserved c =
     let key' : (k : ControllerKey) → get_or (map (λ f. f.key) controllers) n k ≡ controller.key = λ k. by-map (λ f. f.key) controllers n controller.key k within' (λ e. ap (λ f. f.key) (drop-first n controllers controller _ first' e)) in
     let grew : Grew c.loop-driver.reports c.push_reserved.new.self = record { len = search rules; capacity = search rules } in
     record {
-      both = meets-on n (length c.args.lines.now) drivers (into_iter_items c.loop-driver.driver-iterator) (into_iter_items c.next.new.self)
+      both = meets-on n (length c.args.rings.now) drivers (into_iter_items c.loop-driver.driver-iterator) (into_iter_items c.next.new.self)
           (into_iter_len c.loop-driver.driver-iterator) (into_iter_len c.next.new.self) driver controllers (into_iter_items c.loop-driver.controllers) (into_iter_items c.next-in-loop-driver.new.self)
           (into_iter_len c.loop-driver.controllers) (into_iter_len c.next-in-loop-driver.new.self) controller c.loop-driver.reports c.push_reserved.new.self was.both c.in-Some.ensures.steps.0 (search rules) (search rules) (search rules) grew;
       pool = c.conclude_flow-report.ensures.pool;

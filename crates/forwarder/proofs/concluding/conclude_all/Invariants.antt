@@ -12,7 +12,7 @@ ghost-conclude_flow a = (a.driver.key, a.controller.key)
 abbrev pub invariant-loop-driver : goal.invariant-loop-driver
 invariant-loop-driver l =
     record {
-      both : Meets l.number (length l.lines) l.fn.drivers.items (into_iter_items l.driver-iterator) (into_iter_len l.driver-iterator)
+      both : Meets l.number (length l.rings) l.fn.drivers.items (into_iter_items l.driver-iterator) (into_iter_len l.driver-iterator)
           l.fn.controllers.items (into_iter_items l.controllers) (into_iter_len l.controllers) l.reports;
       pool : IsOf l.pool l.pass;
       share : l.pass.hand.share ≡ l.initial.pass.hand.share + l.number;

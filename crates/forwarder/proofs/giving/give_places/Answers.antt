@@ -2,8 +2,8 @@ use Rattle.std.proofs.Common.{◌≡◌, ◌∙◌, ◌∷◌, List, Option, IfS
 use Rattle.std.proofs.lemmas.List.Elements.{All-rest}
 use Rattle.std.specs.Vec.Iter.{into_iter_items}
 use Rattle.buffer_pool.specs.Buffer.{Buffer}
-use Rattle.lending.specs.Lent.{Exchanged}
-use Rattle.lending.proofs.Giving.{exchanged-given}
+use Rattle.buffer_accounting.specs.Lent.{Exchanged}
+use Rattle.buffer_accounting.proofs.Giving.{exchanged-given}
 use Rattle.shared_ring.specs.Meeting.{IsReal, number_at, numbers_at}
 use Rattle.forwarder.proofs.giving.give_places.Goals as goal
 

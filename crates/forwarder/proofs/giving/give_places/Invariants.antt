@@ -1,6 +1,6 @@
 use Rattle.std.proofs.Common.{◌≡◌}
 use Rattle.std.specs.Vec.Iter.{into_iter_items}
-use Rattle.lending.specs.Lent.{Exchanged}
+use Rattle.buffer_accounting.specs.Lent.{Exchanged}
 use Rattle.pool.specs.Owned.{IsOf}
 use Rattle.shared_ring.specs.Meeting.{AllReal, numbers_at}
 use Rattle.forwarder.proofs.giving.give_places.Given as goal

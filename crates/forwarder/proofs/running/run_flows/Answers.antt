@@ -6,7 +6,7 @@ use Rattle.std.proofs.lemmas.List.{length-map}
 use Rattle.flows.specs.Reports.{IsReport}
 use Rattle.limits.specs.declared.profile.TheConstants.{PORTS}
 use Rattle.forwarder.specs.Plans.{plan}
-use Rattle.forwarder.proofs.Plans.{lines-of, reports-of, sides-at}
+use Rattle.forwarder.proofs.Plans.{rings-of, reports-of, sides-at}
 use Rattle.forwarder.proofs.running.run_flows.Goals as goal
 use Rattle.forwarder.proofs.running.run_flows.Goals.{then-is_some, else-is_some}
 
@@ -18,13 +18,13 @@ stop_all-requires-clause-flows g c =
     let cs : length (map (λ f. f.key) served.controllers.items) ≡ length (map (λ f. f.key) sides.controllers.items) = ap length c.serve_sides-shown.ensures.controllers in
     (search (rules, length-map, ds), search (rules, length-map, cs))
 
-pub stop_all-requires-clause-lines : goal.stop_all-requires-clause-lines
-stop_all-requires-clause-lines g c =
+pub stop_all-requires-clause-rings : goal.stop_all-requires-clause-rings
+stop_all-requires-clause-rings g c =
     let sides = c.in_ok-sides.sides in
     let served = c.serve_sides-shown.result.served in
-    lines-of c.args.pool.now (PORTS * c.args.job.config.now.pairs) (length c.args.lines.now) (plan c.args.job.config.now c.args.job.script.now) c.args.lines.now
+    rings-of c.args.pool.now (PORTS * c.args.job.config.now.pairs) (length c.args.rings.now) (plan c.args.job.config.now c.args.job.script.now) c.args.rings.now
     (map (λ f. f.key) sides.drivers.items) (map (λ f. f.key) served.drivers.items) (map (λ f. f.key) sides.controllers.items) (map (λ f. f.key) served.controllers.items)
-    (sym c.requires.ready.all_lines) c.serve_sides-shown.ensures.drivers c.serve_sides-shown.ensures.controllers c.in_ok-sides.ensures.sides
+    (sym c.requires.ready.all_rings) c.serve_sides-shown.ensures.drivers c.serve_sides-shown.ensures.controllers c.in_ok-sides.ensures.sides
 
 pub conclude_all-flows-requires-clause-flows : goal.conclude_all-flows-requires-clause-flows
 conclude_all-flows-requires-clause-flows g c =
@@ -34,19 +34,19 @@ conclude_all-flows-requires-clause-flows g c =
     let cs : length (map (λ f. f.key) served.controllers.items) ≡ length (map (λ f. f.key) sides.controllers.items) = ap length c.serve_sides-shown.ensures.controllers in
     (search (rules, length-map, ds), search (rules, length-map, cs))
 
-pub conclude_all-flows-requires-clause-lines : goal.conclude_all-flows-requires-clause-lines
-conclude_all-flows-requires-clause-lines g c =
+pub conclude_all-flows-requires-clause-rings : goal.conclude_all-flows-requires-clause-rings
+conclude_all-flows-requires-clause-rings g c =
     let sides = c.in_ok-sides.sides in
     let served = c.serve_sides-shown.result.served in
-    lines-of c.args.pool.now (PORTS * c.args.job.config.now.pairs) (length c.args.lines.now) (plan c.args.job.config.now c.args.job.script.now) c.args.lines.now
+    rings-of c.args.pool.now (PORTS * c.args.job.config.now.pairs) (length c.args.rings.now) (plan c.args.job.config.now c.args.job.script.now) c.args.rings.now
     (map (λ f. f.key) sides.drivers.items) (map (λ f. f.key) served.drivers.items) (map (λ f. f.key) sides.controllers.items) (map (λ f. f.key) served.controllers.items)
-    (sym c.requires.ready.all_lines) c.serve_sides-shown.ensures.drivers c.serve_sides-shown.ensures.controllers c.in_ok-sides.ensures.sides
+    (sym c.requires.ready.all_rings) c.serve_sides-shown.ensures.drivers c.serve_sides-shown.ensures.controllers c.in_ok-sides.ensures.sides
 
 pub returns-clause-reports : goal.returns-clause-reports
 returns-clause-reports g c = λ none flow r low.
     let sides = c.in_ok-sides.sides in
     let served = c.serve_sides-shown.result.served in
-    let n = length c.args.lines.now in
+    let n = length c.args.rings.now in
     let plans = plan c.args.job.config.now c.args.job.script.now in
     let ds = map (λ f. f.key) sides.drivers.items in
     let cs = map (λ f. f.key) sides.controllers.items in
@@ -59,7 +59,7 @@ returns-clause-reports g c = λ none flow r low.
     elim c.if-is_some.branch [
       | then-is_some w ↦ absurd (false≢true (sym (w.if-is_some.ensures ∙ ap is_some none)))
       | else-is_some w ↦ subst (λ p. IsReport (plans flow) (slice_index_or p.0.items flow r)) (sym w.flows-is)
-          (reports-of c.args.pool.now n plans c.args.lines.now ds' cs' w.conclude_all-flows.result.items (omega arith) many many'
-          (sides-at c.args.pool.now (PORTS * c.args.job.config.now.pairs) n plans c.args.lines.now ds ds' cs cs' (sym c.requires.ready.all_lines) c.serve_sides-shown.ensures.drivers c.serve_sides-shown.ensures.controllers c.in_ok-sides.ensures.sides)
-          w.conclude_all-flows.ensures.reports flow r (omega (arith, low, c.requires.ready.all_lines)))
+          (reports-of c.args.pool.now n plans c.args.rings.now ds' cs' w.conclude_all-flows.result.items (omega arith) many many'
+          (sides-at c.args.pool.now (PORTS * c.args.job.config.now.pairs) n plans c.args.rings.now ds ds' cs cs' (sym c.requires.ready.all_rings) c.serve_sides-shown.ensures.drivers c.serve_sides-shown.ensures.controllers c.in_ok-sides.ensures.sides)
+          w.conclude_all-flows.ensures.reports flow r (omega (arith, low, c.requires.ready.all_rings)))
     ]

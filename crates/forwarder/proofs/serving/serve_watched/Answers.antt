@@ -2,14 +2,14 @@ use Rattle.std.proofs.Common.{rules, arith, ◌≡◌, ◌≤◌, true, All, len
 use Rattle.std.proofs.lemmas.Slice.Zip.{AllZip-long}
 use denote.Param.Send.{sendable}
 use Rattle.std.proofs.Crossing.{crosses}
-use Rattle.counters.proofs.cell.MomentCell.TheSendSync as Cell
-use Rattle.counters.proofs.cell.MomentPen.TheSendSync as Pen
+use Rattle.counters.proofs.cell.SnapshotCell.TheSendSync as Cell
+use Rattle.counters.proofs.cell.SnapshotPen.TheSendSync as Pen
 use Rattle.flows.proofs.Sent.{controller_flow, driver_flow}
 use Rattle.counters.specs.Paired.{IsFresh}
 use Rattle.controller.specs.Tallying.{nothing}
 use Rattle.flows.specs.Counting.{driven, none, offered}
 use Rattle.flows.specs.Driven.{is_over}
-use Rattle.forwarder.specs.Watching.{driven_shown, offered_shown}
+use Rattle.forwarder.specs.LiveStatistics.{driven_shown, offered_shown}
 use Rattle.forwarder.proofs.Fresh.{alike, none-shown, pens-of}
 use Rattle.forwarder.proofs.Moving.{all-map, as-many, keys-of, marks-by, marks-of}
 use Rattle.forwarder.proofs.serving.serve_watched.Goals as goal

@@ -11,12 +11,12 @@ use Rattle.forwarder.proofs.sides.make_sides.Given as goal
 abbrev pub invariant-loop-own : goal.invariant-loop-own
 invariant-loop-own g l =
     record {
-      both : Makes l.number (length l.lines) l.fn.ends.items (into_iter_items l.own-iterator) (into_iter_len l.own-iterator) l.drivers l.controllers;
+      both : Makes l.number (length l.rings) l.fn.ends.items (into_iter_items l.own-iterator) (into_iter_len l.own-iterator) l.drivers l.controllers;
       pool : IsOf l.pool l.pass;
       held : l.pass.hand.held ≡ l.initial.pass.hand.held;
       share : l.number + l.pass.hand.share ≡ l.initial.pass.hand.share;
       enough : PORTS * MOST_PAIRS < l.number + l.pass.hand.share;
       counts : All (λ f. f.counts ≡ none) (vec_items l.drivers);
       tallies : All (λ f. f.tally ≡ nothing) (vec_items l.controllers);
-      sides : AreAllSides (plan l.config l.script) l.pool l.number l.lines (map (λ f. f.key) (vec_items l.drivers)) (map (λ f. f.key) (vec_items l.controllers));
+      sides : AreAllSides (plan l.config l.script) l.pool l.number l.rings (map (λ f. f.key) (vec_items l.drivers)) (map (λ f. f.key) (vec_items l.controllers));
     }

@@ -8,7 +8,7 @@ use Rattle.forwarder.proofs.stopping.stop_all.Given as goal
 abbrev pub invariant-loop-driver : goal.invariant-loop-driver
 invariant-loop-driver l =
     record {
-      both : Meets l.number (length l.lines) l.fn.drivers.items (into_iter_items l.driver-iterator) (into_iter_len l.driver-iterator)
+      both : Meets l.number (length l.rings) l.fn.drivers.items (into_iter_items l.driver-iterator) (into_iter_len l.driver-iterator)
           l.fn.controllers.items (into_iter_items l.controllers) (into_iter_len l.controllers) l.stopped;
-      stopped : AllZip (IsStopped l.pool) (take l.number l.lines) (vec_items l.stopped);
+      stopped : AllZip (IsStopped l.pool) (take l.number l.rings) (vec_items l.stopped);
     }

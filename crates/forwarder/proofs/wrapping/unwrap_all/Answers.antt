@@ -3,7 +3,7 @@ use Rattle.std.specs.Vec.Iter.{into_iter_items}
 use denote.Param.Send.{sendable}
 use Rattle.flows.proofs.Sent.{controller_flow, driver_flow}
 use Rattle.flows.specs.Counting.{driven, offered}
-use Rattle.forwarder.specs.Watching.{driven_shown, offered_shown}
+use Rattle.forwarder.specs.LiveStatistics.{driven_shown, offered_shown}
 use Rattle.forwarder.proofs.Moving.{moved, moved-as, same-more}
 use Rattle.forwarder.proofs.wrapping.unwrap_all.Goals as goal
 

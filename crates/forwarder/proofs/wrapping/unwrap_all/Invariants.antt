@@ -1,7 +1,7 @@
 use Rattle.std.proofs.Common.{◌≡◌, ◌+◌, ◌≤◌, ◌++◌, map, vec_items, vec_len, vec_capacity}
 use Rattle.std.specs.Vec.Iter.{into_iter_items, into_iter_len}
 use Rattle.flows.specs.Counting.{driven, offered}
-use Rattle.forwarder.specs.Watching.{driven_shown, offered_shown}
+use Rattle.forwarder.specs.LiveStatistics.{driven_shown, offered_shown}
 use Rattle.forwarder.proofs.wrapping.unwrap_all.Given as goal
 
 abbrev pub invariant-loop-driver : goal.invariant-loop-driver

@@ -1,7 +1,7 @@
 //! A receive queue whose driver the test plays.
 ghost use Rattle.std.specs.Prelude.{◌≡◌};
 
-use crate::tests::controllers::told::{Bytes, Told, Walked};
+use crate::tests::controllers::expected::{Bytes, Expected, Walked};
 use crate::walked;
 use buffer_pool::Stash;
 use controller::{RxController, Tally};
@@ -93,11 +93,11 @@ impl Receive {
         asked!(self, is_on, ask_disable, Control::Disabled, is_stopped)
     }
 
-    fn offer(&mut self, len: usize, from: usize) -> Told {
+    fn offer(&mut self, len: usize, from: usize) -> Expected {
         let frame = self.bytes.frame(from, len);
         match self.controller.offer(&self.ring, frame) {
-            Ok(offer) => Told::Offered(offer),
-            Err(refusal) => Told::Refused(refusal),
+            Ok(offer) => Expected::Offered(offer),
+            Err(refusal) => Expected::Refused(refusal),
         }
     }
 
@@ -181,7 +181,7 @@ impl Receive {
     }
 
     /// Makes the rows' steps.
-    pub(crate) fn walk(mut self, rows: &[(Step, Told)]) -> Walked {
+    pub(crate) fn walk(mut self, rows: &[(Step, Expected)]) -> Walked {
         walked!(self, rows, is_holding)
     }
 }
@@ -189,23 +189,23 @@ impl Receive {
 impl Tells for Receive {
     type Step = Step;
 
-    type Told = Told;
+    type Expected = Expected;
 
-    fn make(&mut self, step: Step) -> Told {
+    fn make(&mut self, step: Step) -> Expected {
         match step {
-            Step::Enable => Told::whether(self.enable()),
-            Step::Disable => Told::whether(self.disable()),
-            Step::Renew => Told::counted(self.renew()),
-            Step::Fill => Told::Count(self.fill()),
+            Step::Enable => Expected::whether(self.enable()),
+            Step::Disable => Expected::whether(self.disable()),
+            Step::Renew => Expected::counted(self.renew()),
+            Step::Fill => Expected::Count(self.fill()),
             Step::Offer(len, from) => self.offer(len, from),
-            Step::Take(from, full, last) => Told::whether(self.take(from, full, last)),
-            Step::FindsNone => Told::whether(self.found() != Found::Segment),
-            Step::IsNotDone => Told::whether(self.found() == Found::NotDone),
-            Step::IsOff => Told::whether(self.found() == Found::Off),
-            Step::Finish => Told::whether(self.controller.finish(&self.ring)),
-            Step::IsQuiet => Told::whether(self.driver.is_quiet(&self.ring)),
+            Step::Take(from, full, last) => Expected::whether(self.take(from, full, last)),
+            Step::FindsNone => Expected::whether(self.found() != Found::Segment),
+            Step::IsNotDone => Expected::whether(self.found() == Found::NotDone),
+            Step::IsOff => Expected::whether(self.found() == Found::Off),
+            Step::Finish => Expected::whether(self.controller.finish(&self.ring)),
+            Step::IsQuiet => Expected::whether(self.driver.is_quiet(&self.ring)),
             Step::Counted(offered, stored, dropped, oversize) => {
-                Told::whether(self.has_counted([offered, stored, dropped, oversize]))
+                Expected::whether(self.has_counted([offered, stored, dropped, oversize]))
             }
         }
     }

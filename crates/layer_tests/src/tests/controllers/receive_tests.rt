@@ -1,30 +1,30 @@
 //! Worked rows of a receive queue's controller.
 
+use crate::tests::controllers::expected::{Expected, Walked, add};
 use crate::tests::controllers::receive::{Receive, Step};
-use crate::tests::controllers::told::{Told, Walked, add};
 use crate::tests::wanted::same;
 use controller::{CtlError, Offer, is_fill_size};
 use std::alloc::Global;
 use std::process::Abort;
 
-const STORED: Told = Told::Offered(Offer::Stored);
+const STORED: Expected = Expected::Offered(Offer::Stored);
 
-const DROPPED: Told = Told::Offered(Offer::Dropped);
+const DROPPED: Expected = Expected::Offered(Offer::Dropped);
 
-const HELD: Told = Told::Offered(Offer::Held);
+const HELD: Expected = Expected::Offered(Offer::Held);
 
-const OVERSIZE: Told = Told::Offered(Offer::Oversize);
+const OVERSIZE: Expected = Expected::Offered(Offer::Oversize);
 
-const OFF: Told = Told::Offered(Offer::Off);
+const OFF: Expected = Expected::Offered(Offer::Off);
 
-const REFUSED: Told = Told::Refused(CtlError::FrameLength);
+const REFUSED: Expected = Expected::Refused(CtlError::FrameLength);
 
 /// The number of places of a ring, whether its buffers are filled to 2,048 bytes or to 1,024, and whether a frame that
 /// finds no descriptor is dropped.
 type Queue = (u32, bool, bool);
 
 /// A step, and its expected result.
-type Row = (Step, Told);
+type Row = (Step, Expected);
 
 /// Makes the rows' steps on a ring that is not enabled. No other function here owns a queue, since each one that does
 /// is costly to prove.
@@ -40,7 +40,10 @@ fn each_tells<R: Abort>(rt: &R, alloc: Global, queue: Queue, rows: &[Row]) {
 }
 
 /// The rows that enable and fill a queue of 8.
-const READY: &[Row] = &[(Step::Enable, Told::Yes), (Step::Fill, Told::Count(7))];
+const READY: &[Row] = &[
+    (Step::Enable, Expected::True),
+    (Step::Fill, Expected::Count(7)),
+];
 
 /// The rows of `count` frames of 60 bytes, each taken before the next is offered.
 fn going_round<R: Abort>(rt: &R, alloc: Global, count: usize) -> Vec<Row> {
@@ -49,13 +52,13 @@ fn going_round<R: Abort>(rt: &R, alloc: Global, count: usize) -> Vec<Row> {
     for k in 0..count {
         let round = [
             (Step::Offer(60, k), STORED),
-            (Step::Take(k, 0, 60), Told::Yes),
-            (Step::Fill, Told::Count(1)),
+            (Step::Take(k, 0, 60), Expected::True),
+            (Step::Fill, Expected::Count(1)),
         ];
         add(rt, &mut rows, &round);
     }
     let all = count as u64;
-    let counted = (Step::Counted(all, all, 0, 0), Told::Yes);
+    let counted = (Step::Counted(all, all, 0, 0), Expected::True);
     add(rt, &mut rows, &[counted]);
     rows
 }
@@ -78,16 +81,16 @@ const SEVEN: &[Row] = &[
 
 const DROPPING: &[Row] = &[
     (Step::Offer(60, 7), DROPPED),
-    (Step::Counted(8, 7, 1, 0), Told::Yes),
+    (Step::Counted(8, 7, 1, 0), Expected::True),
 ];
 
 const HOLDING: &[Row] = &[
     (Step::Offer(60, 7), HELD),
-    (Step::Counted(7, 7, 0, 0), Told::Yes),
-    (Step::Take(0, 0, 60), Told::Yes),
-    (Step::Fill, Told::Count(1)),
+    (Step::Counted(7, 7, 0, 0), Expected::True),
+    (Step::Take(0, 0, 60), Expected::True),
+    (Step::Fill, Expected::Count(1)),
     (Step::Offer(60, 7), STORED),
-    (Step::Counted(8, 8, 0, 0), Told::Yes),
+    (Step::Counted(8, 8, 0, 0), Expected::True),
 ];
 
 /// Checks the rows on a ready ring of 8 with seven frames.
@@ -126,11 +129,11 @@ const CUTS: &[Cut] = &[
 fn is_cut<R: Abort>(rt: &R, alloc: Global, row: Cut) {
     let (n, large, len, full, last) = row;
     let rows = [
-        (Step::Enable, Told::Yes),
-        (Step::Fill, Told::Count(n.saturating_sub(1))),
+        (Step::Enable, Expected::True),
+        (Step::Fill, Expected::Count(n.saturating_sub(1))),
         (Step::Offer(len, 3), STORED),
-        (Step::Take(3, full, last), Told::Yes),
-        (Step::FindsNone, Told::Yes),
+        (Step::Take(3, full, last), Expected::True),
+        (Step::FindsNone, Expected::True),
     ];
     let walked = walk(rt, alloc, (n, large, true), &rows);
     same(rt, (len, walked.told), (len, rows.len()));
@@ -148,15 +151,15 @@ const TOO_LONG: &[(bool, usize)] = &[(false, 9_000), (true, 15_000), (true, 14_3
 /// Checks that frames of this length are oversize in a ready ring of 8, and counted so.
 fn is_oversize<R: Abort>(rt: &R, alloc: Global, (large, len): (bool, usize)) {
     let rows = [
-        (Step::Enable, Told::Yes),
-        (Step::Fill, Told::Count(7)),
+        (Step::Enable, Expected::True),
+        (Step::Fill, Expected::Count(7)),
         (Step::Offer(len, 0), OVERSIZE),
-        (Step::Counted(1, 0, 0, 1), Told::Yes),
+        (Step::Counted(1, 0, 0, 1), Expected::True),
         (Step::Offer(len, 0), OVERSIZE),
-        (Step::Counted(2, 0, 0, 2), Told::Yes),
+        (Step::Counted(2, 0, 0, 2), Expected::True),
         (Step::Offer(len, 0), OVERSIZE),
-        (Step::Counted(3, 0, 0, 3), Told::Yes),
-        (Step::FindsNone, Told::Yes),
+        (Step::Counted(3, 0, 0, 3), Expected::True),
+        (Step::FindsNone, Expected::True),
     ];
     let walked = walk(rt, alloc, (8, large, false), &rows);
     same(rt, (len, walked.told), (len, rows.len()));
@@ -170,14 +173,14 @@ fn what_does_not_fit_is_oversize(rt: HostRuntime) {
 }
 
 const REFUSALS: &[Row] = &[
-    (Step::Enable, Told::Yes),
-    (Step::Fill, Told::Count(15)),
+    (Step::Enable, Expected::True),
+    (Step::Fill, Expected::Count(15)),
     (Step::Offer(0, 0), REFUSED),
     (Step::Offer(1, 0), REFUSED),
     (Step::Offer(13, 0), REFUSED),
     (Step::Offer(15_001, 0), REFUSED),
     (Step::Offer(20_000, 0), REFUSED),
-    (Step::Counted(0, 0, 0, 0), Told::Yes),
+    (Step::Counted(0, 0, 0, 0), Expected::True),
 ];
 
 #[test]
@@ -226,9 +229,9 @@ fn alternate<R: Abort>(rt: &R, rows: &mut Vec<Row>, first: usize, count: usize) 
 fn take<R: Abort>(rt: &R, rows: &mut Vec<Row>, first: usize, count: u32) {
     for k in 0..count as usize {
         let place = first.saturating_add(k);
-        add(rt, rows, &[(Step::Take(place, 0, 60), Told::Yes)]);
+        add(rt, rows, &[(Step::Take(place, 0, 60), Expected::True)]);
     }
-    add(rt, rows, &[(Step::Fill, Told::Count(count))]);
+    add(rt, rows, &[(Step::Fill, Expected::Count(count))]);
 }
 
 /// The rows of 100 frames, each after one that is oversize; each eighth is held until the seven before it are taken.
@@ -243,7 +246,7 @@ fn alternating<R: Abort>(rt: &R, alloc: Global) -> Vec<Row> {
     }
     alternate(rt, &mut rows, 98, 2);
     take(rt, &mut rows, 98, 2);
-    let counted = (Step::Counted(200, 100, 0, 100), Told::Yes);
+    let counted = (Step::Counted(200, 100, 0, 100), Expected::True);
     add(rt, &mut rows, &[counted]);
     rows
 }
@@ -257,21 +260,24 @@ fn oversize_frames_between_others(rt: HostRuntime) {
 /// The rows of a queue whose controller announces that it is quiet, and of one that the driver disables: nothing more
 /// is stored.
 const QUIET: &[Row] = &[
-    (Step::Finish, Told::Yes),
-    (Step::IsQuiet, Told::Yes),
+    (Step::Finish, Expected::True),
+    (Step::IsQuiet, Expected::True),
     (Step::Offer(60, 9), OFF),
-    (Step::Finish, Told::No),
+    (Step::Finish, Expected::False),
 ];
 
 const DISABLED: &[Row] = &[
-    (Step::Disable, Told::Yes),
-    (Step::IsOff, Told::Yes),
+    (Step::Disable, Expected::True),
+    (Step::IsOff, Expected::True),
     (Step::Offer(60, 9), OFF),
-    (Step::Finish, Told::No),
+    (Step::Finish, Expected::False),
 ];
 
 /// The rows of a quiet queue whose frames are all taken.
-const TAKEN: &[Row] = &[(Step::IsNotDone, Told::Yes), (Step::Disable, Told::Yes)];
+const TAKEN: &[Row] = &[
+    (Step::IsNotDone, Expected::True),
+    (Step::Disable, Expected::True),
+];
 
 /// The rows of a disabled queue, whose frames stay.
 const LEFT: &[Row] = &[];
@@ -279,10 +285,10 @@ const LEFT: &[Row] = &[];
 /// The rows of a queue that is renewed.
 const ANEW: &[Row] = &[
     (Step::Offer(60, 9), OFF),
-    (Step::Fill, Told::Count(7)),
-    (Step::Enable, Told::Yes),
+    (Step::Fill, Expected::Count(7)),
+    (Step::Enable, Expected::True),
     (Step::Offer(60, 9), STORED),
-    (Step::Take(9, 0, 60), Told::Yes),
+    (Step::Take(9, 0, 60), Expected::True),
 ];
 
 /// Adds a row `times` times.
@@ -305,15 +311,15 @@ fn over_after<R: Abort>(rt: &R, alloc: Global, before: u32, quiet: bool) -> Vec<
     repeat(rt, &mut rows, (Step::Offer(60, 9), STORED), before);
     add(rt, &mut rows, over);
     let stored = u64::from(before);
-    let counted = (Step::Counted(stored, stored, 0, 0), Told::Yes);
+    let counted = (Step::Counted(stored, stored, 0, 0), Expected::True);
     add(rt, &mut rows, &[counted]);
-    repeat(rt, &mut rows, (Step::Take(9, 0, 60), Told::Yes), taken);
+    repeat(rt, &mut rows, (Step::Take(9, 0, 60), Expected::True), taken);
     add(rt, &mut rows, then);
     let left = 7u32.saturating_sub(taken);
-    add(rt, &mut rows, &[(Step::Renew, Told::Count(left))]);
+    add(rt, &mut rows, &[(Step::Renew, Expected::Count(left))]);
     add(rt, &mut rows, ANEW);
     let stored = stored.saturating_add(1);
-    let counted = (Step::Counted(stored, stored, 0, 0), Told::Yes);
+    let counted = (Step::Counted(stored, stored, 0, 0), Expected::True);
     add(rt, &mut rows, &[counted]);
     rows
 }
@@ -334,10 +340,10 @@ fn nothing_is_stored_once_it_is_over(rt: HostRuntime) {
 }
 
 const BEFORE: &[Row] = &[
-    (Step::Fill, Told::Count(7)),
+    (Step::Fill, Expected::Count(7)),
     (Step::Offer(15_000, 0), OFF),
-    (Step::Finish, Told::No),
-    (Step::Enable, Told::Yes),
+    (Step::Finish, Expected::False),
+    (Step::Enable, Expected::True),
     (Step::Offer(15_000, 0), OVERSIZE),
 ];
 

@@ -6,8 +6,8 @@ ghost use Rattle.ring_model.specs.transmit.Ring.{carried};
 ghost use Rattle.tx_ring.specs.Ends.{posted};
 ghost use Rattle.ring_tests.specs.Begun.{AreOfFrame};
 
+use crate::tests::controllers::expected::{Bytes, Expected, Walked};
 use crate::tests::controllers::growing::{len_of, send, send_seldom_growing};
-use crate::tests::controllers::told::{Bytes, Told, Walked};
 use crate::walked;
 use buffer_pool::Stash;
 use controller::{CtlError, Turn, TxController, Wire};
@@ -247,7 +247,7 @@ impl Transmit {
     }
 
     /// Makes the rows' steps.
-    pub(crate) fn walk(mut self, rows: &[(Step, Told)]) -> Walked {
+    pub(crate) fn walk(mut self, rows: &[(Step, Expected)]) -> Walked {
         walked!(self, rows, owes_report)
     }
 }
@@ -255,23 +255,23 @@ impl Transmit {
 impl Tells for Transmit {
     type Step = Step;
 
-    type Told = Told;
+    type Expected = Expected;
 
-    fn make(&mut self, step: Step) -> Told {
+    fn make(&mut self, step: Step) -> Expected {
         match step {
-            Step::Enable => Told::whether(self.enable()),
-            Step::Disable => Told::whether(self.disable()),
-            Step::Renew => Told::whether(self.renew().is_some()),
-            Step::Post(len, from, bsize, rs) => Told::whether(self.post(len, from, bsize, rs)),
-            Step::Turn => Told::turned(self.turn()),
-            Step::HasReport => Told::whether(self.driver.poll_report(&self.ring)),
-            Step::Clean => Told::Count(self.clean()),
-            Step::HasSent(count) => Told::whether(self.has_sent(count)),
-            Step::IsOnWire(k, len, from) => Told::whether(self.is_on_wire(k, len, from)),
-            Step::Send(count) => Told::Count(send(self, count)),
-            Step::AreSent(count) => Told::whether(self.are_sent(count)),
+            Step::Enable => Expected::whether(self.enable()),
+            Step::Disable => Expected::whether(self.disable()),
+            Step::Renew => Expected::whether(self.renew().is_some()),
+            Step::Post(len, from, bsize, rs) => Expected::whether(self.post(len, from, bsize, rs)),
+            Step::Turn => Expected::turned(self.turn()),
+            Step::HasReport => Expected::whether(self.driver.poll_report(&self.ring)),
+            Step::Clean => Expected::Count(self.clean()),
+            Step::HasSent(count) => Expected::whether(self.has_sent(count)),
+            Step::IsOnWire(k, len, from) => Expected::whether(self.is_on_wire(k, len, from)),
+            Step::Send(count) => Expected::Count(send(self, count)),
+            Step::AreSent(count) => Expected::whether(self.are_sent(count)),
             Step::SendSeldomGrowing(count, most) => {
-                Told::Count(send_seldom_growing(self, count, most))
+                Expected::Count(send_seldom_growing(self, count, most))
             }
         }
     }

@@ -1,6 +1,6 @@
 //! Worked rows of a transmit queue's controller, and of the wire.
 
-use crate::tests::controllers::told::{Told, Walked, add};
+use crate::tests::controllers::expected::{Expected, Walked, add};
 use crate::tests::controllers::transmit::{Step, Transmit};
 use crate::tests::wanted::same;
 use controller::Turn;
@@ -10,14 +10,14 @@ use tx_ring::Completion;
 
 const BOTH_WAYS: &[Completion] = &[Completion::Status, Completion::Head];
 
-const OFF: Told = Told::Turned(Turn::Off);
+const OFF: Expected = Expected::Turned(Turn::Off);
 
-const IDLE: Told = Told::Turned(Turn::Idle);
+const IDLE: Expected = Expected::Turned(Turn::Idle);
 
-const SENT: Told = Told::Turned(Turn::Sent);
+const SENT: Expected = Expected::Turned(Turn::Sent);
 
 /// A step, and its expected result.
-type Row = (Step, Told);
+type Row = (Step, Expected);
 
 /// Makes the rows' steps on a ring that is not enabled. No other function here owns a queue, since each one that does
 /// is costly to prove.
@@ -38,20 +38,20 @@ fn each_tells<R: Abort>(rt: &R, alloc: Global, queue: (u32, Completion), rows: &
 }
 
 const TWO: &[Row] = &[
-    (Step::Post(60, 1, 2_048, false), Told::Yes),
-    (Step::Post(14, 2, 2_048, true), Told::Yes),
+    (Step::Post(60, 1, 2_048, false), Expected::True),
+    (Step::Post(14, 2, 2_048, true), Expected::True),
     (Step::Turn, OFF),
-    (Step::HasSent(0), Told::Yes),
-    (Step::Enable, Told::Yes),
+    (Step::HasSent(0), Expected::True),
+    (Step::Enable, Expected::True),
     (Step::Turn, SENT),
-    (Step::HasReport, Told::No),
+    (Step::HasReport, Expected::False),
     (Step::Turn, SENT),
     (Step::Turn, IDLE),
-    (Step::HasReport, Told::Yes),
-    (Step::Clean, Told::Count(2)),
-    (Step::HasSent(2), Told::Yes),
-    (Step::IsOnWire(0, 60, 1), Told::Yes),
-    (Step::IsOnWire(1, 14, 2), Told::Yes),
+    (Step::HasReport, Expected::True),
+    (Step::Clean, Expected::Count(2)),
+    (Step::HasSent(2), Expected::True),
+    (Step::IsOnWire(0, 60, 1), Expected::True),
+    (Step::IsOnWire(1, 14, 2), Expected::True),
 ];
 
 #[test]
@@ -63,22 +63,22 @@ fn frames_go_onto_the_wire(rt: HostRuntime) {
 
 /// An enabled queue with four frames.
 const FOUR: &[Row] = &[
-    (Step::Enable, Told::Yes),
-    (Step::Post(60, 5, 2_048, true), Told::Yes),
-    (Step::Post(60, 6, 2_048, true), Told::Yes),
-    (Step::Post(60, 7, 2_048, true), Told::Yes),
-    (Step::Post(60, 8, 2_048, true), Told::Yes),
+    (Step::Enable, Expected::True),
+    (Step::Post(60, 5, 2_048, true), Expected::True),
+    (Step::Post(60, 6, 2_048, true), Expected::True),
+    (Step::Post(60, 7, 2_048, true), Expected::True),
+    (Step::Post(60, 8, 2_048, true), Expected::True),
 ];
 
 /// The rows of a queue that is disabled.
-const DISABLED: &[Row] = &[(Step::Disable, Told::Yes), (Step::Turn, OFF)];
+const DISABLED: &[Row] = &[(Step::Disable, Expected::True), (Step::Turn, OFF)];
 
 /// The rows of one that is renewed, and sends one frame.
 const ANEW: &[Row] = &[
-    (Step::Renew, Told::Yes),
-    (Step::Post(60, 9, 2_048, true), Told::Yes),
+    (Step::Renew, Expected::True),
+    (Step::Post(60, 9, 2_048, true), Expected::True),
     (Step::Turn, OFF),
-    (Step::Enable, Told::Yes),
+    (Step::Enable, Expected::True),
     (Step::Turn, SENT),
     (Step::Turn, IDLE),
 ];
@@ -92,11 +92,11 @@ fn over_after<R: Abort>(rt: &R, alloc: Global, before: usize) -> Vec<Row> {
         add(rt, &mut rows, &[(Step::Turn, SENT)]);
     }
     add(rt, &mut rows, DISABLED);
-    add(rt, &mut rows, &[(Step::HasSent(before), Told::Yes)]);
+    add(rt, &mut rows, &[(Step::HasSent(before), Expected::True)]);
     add(rt, &mut rows, ANEW);
     let sent = [
-        (Step::HasSent(before.saturating_add(1)), Told::Yes),
-        (Step::IsOnWire(before, 60, 9), Told::Yes),
+        (Step::HasSent(before.saturating_add(1)), Expected::True),
+        (Step::IsOnWire(before, 60, 9), Expected::True),
     ];
     add(rt, &mut rows, &sent);
     rows
@@ -118,10 +118,10 @@ fn nothing_is_sent_once_it_is_disabled(rt: HostRuntime) {
 }
 
 const GROWN: &[Row] = &[
-    (Step::Enable, Told::Yes),
-    (Step::Send(300), Told::Count(300)),
+    (Step::Enable, Expected::True),
+    (Step::Send(300), Expected::Count(300)),
     (Step::Turn, IDLE),
-    (Step::AreSent(300), Told::Yes),
+    (Step::AreSent(300), Expected::True),
 ];
 
 #[test]
@@ -130,9 +130,12 @@ fn a_wire_grows(rt: HostRuntime) {
 }
 
 const LONG: &[Row] = &[
-    (Step::Enable, Told::Yes),
-    (Step::SendSeldomGrowing(100_000, 60), Told::Count(100_000)),
-    (Step::HasSent(100_000), Told::Yes),
+    (Step::Enable, Expected::True),
+    (
+        Step::SendSeldomGrowing(100_000, 60),
+        Expected::Count(100_000),
+    ),
+    (Step::HasSent(100_000), Expected::True),
 ];
 
 #[test]
@@ -156,14 +159,14 @@ const JOINED: &[Joined] = &[
 fn is_joined<R: Abort>(rt: &R, alloc: Global, completion: Completion, row: Joined) {
     let (len, bsize, segments) = row;
     let rows = [
-        (Step::Enable, Told::Yes),
-        (Step::Post(len, 3, bsize, true), Told::Yes),
+        (Step::Enable, Expected::True),
+        (Step::Post(len, 3, bsize, true), Expected::True),
         (Step::Turn, SENT),
-        (Step::HasReport, Told::Yes),
+        (Step::HasReport, Expected::True),
         (Step::Turn, IDLE),
-        (Step::HasSent(1), Told::Yes),
-        (Step::IsOnWire(0, len, 3), Told::Yes),
-        (Step::Clean, Told::Count(segments)),
+        (Step::HasSent(1), Expected::True),
+        (Step::IsOnWire(0, len, 3), Expected::True),
+        (Step::Clean, Expected::Count(segments)),
     ];
     let walked = walk(rt, alloc, (16, completion), &rows);
     same(rt, (len, walked.told), (len, rows.len()));

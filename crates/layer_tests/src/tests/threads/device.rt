@@ -2,7 +2,7 @@
 ghost use Rattle.std.specs.Prelude.{◌≡◌};
 
 use crate::tests::threads::frames::Frames;
-use crate::tests::threads::side::{Epochs, Shared, Side};
+use crate::tests::threads::side::{Epochs, Shared, ThreadSide};
 use controller::{Offer, RxController, Tally, Turn, TxController, Wire};
 use rx_ring::{Control, RxRing};
 use std::alloc::Global;
@@ -13,7 +13,7 @@ const PAUSE: u32 = 100;
 
 /// The receive queue's controller.
 #[derive(Drop)]
-pub(crate) struct Offering {
+pub(crate) struct DeviceSource {
     pub controller: RxController,
     epochs: Epochs,
     /// How many frames are offered in an epoch at least, and how many were.
@@ -30,12 +30,12 @@ pub(crate) struct Offering {
     pub refused: bool,
 }
 
-impl Offering {
+impl DeviceSource {
     /// Nothing was offered yet.
-    pub(crate) fn new(alloc: Global, controller: RxController, least: u32) -> Offering
+    pub(crate) fn new(alloc: Global, controller: RxController, least: u32) -> DeviceSource
         ensures { result.controller ≡ controller }
     {
-        Offering {
+        DeviceSource {
             controller,
             epochs: Epochs::new(),
             least,
@@ -98,19 +98,19 @@ impl Offering {
 
 /// The transmit queue's controller, and its wire.
 #[derive(Drop)]
-pub(crate) struct Wiring {
+pub(crate) struct DeviceSink {
     pub controller: TxController,
     pub wire: Wire,
     epochs: Epochs,
     pub refused: bool,
 }
 
-impl Wiring {
+impl DeviceSink {
     /// Nothing was sent yet.
-    pub(crate) fn new(alloc: Global, controller: TxController) -> Wiring
+    pub(crate) fn new(alloc: Global, controller: TxController) -> DeviceSink
         ensures { result.controller ≡ controller }
     {
-        Wiring {
+        DeviceSink {
             controller,
             wire: Wire::new(alloc),
             epochs: Epochs::new(),
@@ -136,22 +136,22 @@ impl Wiring {
 /// Both in one thread.
 #[derive(Drop)]
 pub(crate) struct Device {
-    pub offering: Offering,
-    pub wiring: Wiring,
+    pub source: DeviceSource,
+    pub sink: DeviceSink,
     /// The number of epochs to serve.
     pub most: u32,
 }
 
-impl Side for Device {
-    ghost is_of = { λ shared d. (d.offering.controller.end.table ≡ shared.from) × (d.wiring.controller.table ≡ shared.to) };
+impl ThreadSide for Device {
+    ghost is_of = { λ shared d. (d.source.controller.end.table ≡ shared.from) × (d.sink.controller.table ≡ shared.to) };
 
     fn turn(&mut self, shared: &Shared) -> bool {
-        let stored = self.offering.turn(&shared.from, &shared.frames);
-        let sent = self.wiring.turn(&shared.to);
+        let stored = self.source.turn(&shared.from, &shared.frames);
+        let sent = self.sink.turn(&shared.to);
         stored || sent
     }
 
     fn is_over(&self) -> bool {
-        self.offering.epochs.ended == self.most && self.wiring.epochs.ended == self.most
+        self.source.epochs.ended == self.most && self.sink.epochs.ended == self.most
     }
 }

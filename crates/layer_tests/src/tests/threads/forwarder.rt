@@ -4,7 +4,7 @@ ghost use Rattle.buffer_pool.specs.Packed.{IsPacket};
 ghost use Rattle.driver.specs.receive.Receiver.{IsReady as IsReadyRx};
 ghost use Rattle.driver.specs.transmit.Transmitter.{IsReady as IsReadyTx};
 
-use crate::tests::threads::side::{Shared, Side};
+use crate::tests::threads::side::{Shared, ThreadSide};
 use arrayvec::ArrayVec;
 use buffer_pool::{Packet, Stash};
 use driver::{MOST_BATCH, QueueDriver, RxDriver, TxDriver};
@@ -13,7 +13,7 @@ use tx_ring::{TxDriverEnd, TxRing};
 
 /// The buffers at hand, and the packets that were taken and not posted.
 #[derive(Drop)]
-pub(crate) struct Load {
+pub(crate) struct DriverBuffers {
     pub stash: Stash,
     pub packets: ArrayVec<Packet, MOST_BATCH>,
     ghost whole: { All IsPacket packets.items },
@@ -65,15 +65,17 @@ impl Taking {
     }
 
     /// Takes one batch. Returns the number of frames, unless it was refused.
-    fn take(&mut self, ring: &RxRing, load: &mut Load) -> Option<usize>
+    fn take(&mut self, ring: &RxRing, driver_buffers: &mut DriverBuffers) -> Option<usize>
         requires { self.old.driver.end.table ≡ ring.now }
         ensures { self.new.driver.end.table ≡ ring.now }
     {
         let quiet = self.driver.is_quiet(ring);
-        let has_room = load.packets.len() < MOST_BATCH;
-        let taken = self
-            .driver
-            .rx_batch(ring, &mut load.stash, &mut load.packets);
+        let has_room = driver_buffers.packets.len() < MOST_BATCH;
+        let taken = self.driver.rx_batch(
+            ring,
+            &mut driver_buffers.stash,
+            &mut driver_buffers.packets,
+        );
         let count = taken.ok()?;
         self.count = self.count.saturating_add(count);
         if self.has_enough(quiet && count == 0 && has_room) {
@@ -93,15 +95,15 @@ impl Taking {
     }
 
     /// Takes one batch, asks for the disabling when it is due, and takes back the buffers of a disabled queue.
-    fn turn(&mut self, ring: &RxRing, load: &mut Load) -> usize
+    fn turn(&mut self, ring: &RxRing, driver_buffers: &mut DriverBuffers) -> usize
         requires { self.old.driver.end.table ≡ ring.now }
         ensures { self.new.driver.end.table ≡ ring.now }
     {
         let _ = self.driver.enable(ring);
-        let Some(count) = self.take(ring, load) else {
+        let Some(count) = self.take(ring, driver_buffers) else {
             return 0;
         };
-        self.end(ring, &mut load.stash);
+        self.end(ring, &mut driver_buffers.stash);
         count
     }
 
@@ -142,20 +144,24 @@ impl Sending {
 
     /// Posts one batch. If no more comes and all is cleaned, asks for the disabling, and takes back the buffers of a
     /// disabled queue.
-    fn turn(&mut self, ring: &TxRing, load: &mut Load, last: bool) -> usize
+    fn turn(&mut self, ring: &TxRing, driver_buffers: &mut DriverBuffers, last: bool) -> usize
         requires { self.old.driver.end.table ≡ ring.now }
         ensures { self.new.driver.end.table ≡ ring.now }
     {
         let driver = &mut self.driver;
         let _ = driver.enable(ring);
-        let Ok(count) = driver.tx_batch(ring, &mut load.stash, &mut load.packets) else {
+        let Ok(count) = driver.tx_batch(
+            ring,
+            &mut driver_buffers.stash,
+            &mut driver_buffers.packets,
+        ) else {
             return 0;
         };
-        if last && load.packets.is_empty() && driver.room() == self.room {
+        if last && driver_buffers.packets.is_empty() && driver.room() == self.room {
             let _ = driver.ask_disable(ring);
         }
         if driver.finish_disable(ring) == Some(0) {
-            self.over = driver.reclaim_into(ring, &mut load.stash).is_ok();
+            self.over = driver.reclaim_into(ring, &mut driver_buffers.stash).is_ok();
         }
         count
     }
@@ -175,7 +181,7 @@ impl Sending {
 pub(crate) struct Forwarder {
     pub taking: Taking,
     pub sending: Sending,
-    pub load: Load,
+    pub driver_buffers: DriverBuffers,
     /// The number of epochs to serve, and how many ended with the renewal of both queues.
     epochs: u32,
     ended: u32,
@@ -204,7 +210,7 @@ impl Forwarder {
         Forwarder {
             taking: Taking::new(from, plan.batch, plan.ends),
             sending: Sending::new(to),
-            load: Load {
+            driver_buffers: DriverBuffers {
                 stash,
                 packets: ArrayVec::new(),
             },
@@ -216,14 +222,14 @@ impl Forwarder {
     }
 }
 
-impl Side for Forwarder {
+impl ThreadSide for Forwarder {
     ghost is_of = { λ shared f. (f.taking.driver.end.table ≡ shared.from) × (f.sending.driver.end.table ≡ shared.to) };
 
     fn turn(&mut self, shared: &Shared) -> bool {
-        let taken = self.taking.turn(&shared.from, &mut self.load);
+        let taken = self.taking.turn(&shared.from, &mut self.driver_buffers);
         let sent = self
             .sending
-            .turn(&shared.to, &mut self.load, self.taking.over);
+            .turn(&shared.to, &mut self.driver_buffers, self.taking.over);
         self.taken = self.taken.saturating_add(taken);
         self.sent = self.sent.saturating_add(sent);
         if self.taking.over

@@ -3,7 +3,7 @@
 ghost use Rattle.std.specs.Prelude.{◌≡◌};
 
 use crate::tests::threads::frames::Frames;
-use crate::tests::threads::side::{Epochs, Shared, Side};
+use crate::tests::threads::side::{Epochs, Shared, ThreadSide};
 use descriptor::TxRead;
 use limits::{BUFFER_BYTES, MOST_SEGMENTS};
 use ring_tests::Storer;
@@ -158,7 +158,7 @@ pub(crate) struct Played {
     pub most: u32,
 }
 
-impl Side for Played {
+impl ThreadSide for Played {
     ghost is_of = { λ shared d. (d.storing.storer.controller.table ≡ shared.from) × (d.hearing.end.table ≡ shared.to) };
 
     fn turn(&mut self, shared: &Shared) -> bool {

@@ -20,7 +20,7 @@ pub(crate) struct Shared {
 const TRIES: u32 = 10_000;
 
 /// The work of one thread with its ends of both rings.
-pub(crate) trait Side {
+pub(crate) trait ThreadSide {
     ghost use Rattle.layer_tests.specs.declared.tests.threads.side.Shared.{Shared};
 
     /// Its ends belong to these rings.
@@ -63,7 +63,7 @@ impl Epochs {
 }
 
 /// Gives a side turns until it is done.
-pub(crate) fn run<R: Wait, S: Side + Drop>(rt: &R, shared: &Shared, mut side: S) -> S
+pub(crate) fn run<R: Wait, S: ThreadSide + Drop>(rt: &R, shared: &Shared, mut side: S) -> S
     requires { S.is_of shared.now side }
     ensures { S.is_of shared.now result }
 {
@@ -85,12 +85,11 @@ pub(crate) fn run<R: Wait, S: Side + Drop>(rt: &R, shared: &Shared, mut side: S)
 }
 
 /// Gives two sides turns, each in a thread of its own, until both are done.
-pub(crate) fn run_both<R: Threads + Wait + Sync, A: Side + Drop + Send, B: Side + Drop + Send>(
-    rt: &R,
-    shared: &Shared,
-    one: A,
-    other: B,
-) -> (A, B)
+pub(crate) fn run_both<
+    R: Threads + Wait + Sync,
+    A: ThreadSide + Drop + Send,
+    B: ThreadSide + Drop + Send,
+>(rt: &R, shared: &Shared, one: A, other: B) -> (A, B)
     requires one { A.is_of shared.now one }
     requires other { B.is_of shared.now other }
     ensures one { A.is_of shared.now result.0 }

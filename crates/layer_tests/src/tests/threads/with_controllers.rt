@@ -3,7 +3,7 @@ ghost use Rattle.std.specs.Prelude.{◌≡◌, ◌<◌};
 ghost use Rattle.controller.specs.Receiving.{IsIdle as IsIdleRx};
 ghost use Rattle.controller.specs.Transmitting.{IsIdle as IsIdleTx};
 
-use crate::tests::threads::device::{Device, Offering, Wiring};
+use crate::tests::threads::device::{Device, DeviceSink, DeviceSource};
 use crate::tests::threads::forwarder::{Ends, Forwarder, Plan};
 use crate::tests::threads::frames::{Frames, Lens};
 use crate::tests::threads::rings::Rings;
@@ -50,15 +50,15 @@ fn carries(wire: &Wire, frames: &Frames, numbers: &[u32]) -> bool {
 
 /// The counts, if all stored frames were taken and sent, and nothing was refused.
 fn seen(forwarder: &Forwarder, device: &Device, frames: &Frames) -> Option<Tally> {
-    let (offering, wiring) = (&device.offering, &device.wiring);
-    let stored = offering.stored.len();
+    let (source, sink) = (&device.source, &device.sink);
+    let stored = source.stored.len();
     let is_whole = forwarder.taken == stored
         && forwarder.sent == stored
-        && carries(&wiring.wire, frames, offering.stored.as_slice());
-    let is_counted = offering.seen.stored == stored as u64
-        && offering.seen == offering.controller.tally();
-    if is_whole && is_counted && !offering.refused && !wiring.refused {
-        Some(offering.seen)
+        && carries(&sink.wire, frames, source.stored.as_slice());
+    let is_counted = source.seen.stored == stored as u64
+        && source.seen == source.controller.tally();
+    if is_whole && is_counted && !source.refused && !sink.refused {
+        Some(source.seen)
     } else {
         None
     }
@@ -68,16 +68,16 @@ fn seen(forwarder: &Forwarder, device: &Device, frames: &Frames) -> Option<Tally
 fn device(alloc: Global, case: &Case, stores: RxControllerEnd, sends: TxControllerEnd) -> Device
     requires stores { IsIdleRx stores }
     requires sends { IsIdleTx sends }
-    ensures stores { result.offering.controller.end ≡ stores }
-    ensures sends { result.wiring.controller ≡ sends }
+    ensures stores { result.source.controller.end ≡ stores }
+    ensures sends { result.sink.controller ≡ sends }
 {
     let bsize = if case.large { 2_048 } else { 1_024 };
     let controller = RxController::new(stores, bsize, case.drop_en);
-    let offering = Offering::new(alloc, controller, case.frames);
-    let wiring = Wiring::new(alloc, TxController::new(sends));
+    let source = DeviceSource::new(alloc, controller, case.frames);
+    let sink = DeviceSink::new(alloc, TxController::new(sends));
     Device {
-        offering,
-        wiring,
+        source,
+        sink,
         most: case.epochs,
     }
 }
@@ -85,7 +85,7 @@ fn device(alloc: Global, case: &Case, stores: RxControllerEnd, sends: TxControll
 /// Both sides of a case over these rings.
 fn sides(alloc: Global, case: &Case, rings: Rings, stash: Stash) -> (Shared, Forwarder, Device)
     ensures forwarder { (result.1.taking.driver.end.table ≡ result.0.from) × (result.1.sending.driver.end.table ≡ result.0.to) }
-    ensures device { (result.2.offering.controller.end.table ≡ result.0.from) × (result.2.wiring.controller.table ≡ result.0.to) }
+    ensures device { (result.2.source.controller.end.table ≡ result.0.from) × (result.2.sink.controller.table ≡ result.0.to) }
 {
     let plan = Plan {
         batch: 7,

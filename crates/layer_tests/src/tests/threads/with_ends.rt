@@ -68,7 +68,7 @@ fn closes(shared: Shared, forwarder: Forwarder, played: Played) -> bool
     let Forwarder {
         taking,
         sending,
-        load,
+        driver_buffers,
         ..
     } = forwarder;
     let Played {
@@ -80,7 +80,7 @@ fn closes(shared: Shared, forwarder: Forwarder, played: Played) -> bool
     let is_empty = Closed::of(lying, Stash::new(), None).lying() == 0;
     let (end, _chain) = taking.driver.into_end();
     let slots = rx_ring::close(from, end, storing.storer.controller);
-    let closed = Closed::of(slots, load.stash, None);
+    let closed = Closed::of(slots, driver_buffers.stash, None);
     is_empty && closed.has_each_once(BUFFERS as usize)
 }
 

@@ -1,10 +1,10 @@
 //! A written moment is read back, inconsistent numbers are recognized, and memory may be refused.
 ghost use Rattle.std.specs.Prelude.{◌≡◌};
-ghost use Rattle.counters.specs.Moments.{NoneFalls};
+ghost use Rattle.counters.specs.Snapshots.{NoneFalls};
 
 use crate::tests::wanted::holds;
 use counters::{
-    ByteCell, Bytes, CounterError, Driven, FlowCells, Moment, MomentCell, MomentPass, Offered,
+    ByteCell, Bytes, CounterError, Driven, FlowCells, Offered, Snapshot, SnapshotCell, SnapshotPass,
 };
 use std::alloc::Global;
 use std::fmt::Debug;
@@ -12,10 +12,10 @@ use std::process::Abort;
 use std::sync::Wait;
 
 /// The next read of this pass shows these numbers.
-pub fn shows<R: Abort + Wait, T: Moment<N> + PartialEq + Debug, const N: usize>(
+pub fn shows<R: Abort + Wait, T: Snapshot<N> + PartialEq + Debug, const N: usize>(
     rt: &R,
-    cell: &MomentCell<T, N>,
-    pass: &mut MomentPass<T>,
+    cell: &SnapshotCell<T, N>,
+    pass: &mut SnapshotPass<T>,
     numbers: T,
 )
     requires own { pass.old.cell ≡ cell.now }
@@ -25,7 +25,7 @@ pub fn shows<R: Abort + Wait, T: Moment<N> + PartialEq + Debug, const N: usize>(
 }
 
 /// A pass shows the opening first and then the written numbers. A pass that begins afterwards shows the latter.
-fn what_is_written_is_read<R: Abort + Wait, T: Moment<N> + PartialEq + Debug, const N: usize>(
+fn what_is_written_is_read<R: Abort + Wait, T: Snapshot<N> + PartialEq + Debug, const N: usize>(
     rt: &R,
     alloc: Global,
     numbers: T,
@@ -33,7 +33,7 @@ fn what_is_written_is_read<R: Abort + Wait, T: Moment<N> + PartialEq + Debug, co
     requires lawful { T.lawful numbers }
     requires none_falls { NoneFalls (T.words T.opening) (T.words numbers) }
 {
-    let (cell, mut pen, mut told_before) = MomentCell::<T, N>::new(alloc).expect(rt, "a cell");
+    let (cell, mut pen, mut told_before) = SnapshotCell::<T, N>::new(alloc).expect(rt, "a cell");
     shows(rt, &cell, &mut told_before, T::opening());
     cell.write(rt, &mut pen, numbers);
     let mut told_after = pen.pass();

@@ -4,7 +4,7 @@ ghost use Rattle.counters.specs.Kinds.{none_offered};
 
 use crate::tests::counting::rows::shows;
 use crate::tests::wanted::holds;
-use counters::{Moment, Offered, StatCell, StatPass, StatPen};
+use counters::{Offered, Snapshot, StatCell, StatPass, StatPen};
 use std::sync::Wait;
 use std::thread;
 use std::thread::Threads;

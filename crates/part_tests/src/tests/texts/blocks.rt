@@ -1,8 +1,9 @@
 //! Captures in pcapng: the blocks that are read, the refusals, and times. The bytes follow the format's draft.
 
+use crate::tests::texts::files::{Answer, Parts, answer_with, joined};
 use crate::tests::wanted::same;
-use capture::{CaptureRecord, ReadOptions, TimeUnit, read, read_with};
-use std::alloc::{AllocError, Global};
+use capture::{CaptureRecord, ReadOptions, TimeUnit, read};
+use std::alloc::Global;
 use std::process::Abort;
 
 /// Section headers: little-endian and big-endian; of version 2; with another magic number.
@@ -71,13 +72,6 @@ const SIMPLE_15: &[u8] = b"\x03\0\0\0\x20\0\0\0\x0f\0\0\0abcdefghijklmn\0\0\x20\
 const NAMES: &[u8] = b"\x04\0\0\0\x10\0\0\0\0\0\0\0\x10\0\0\0";
 
 const CUSTOM: &[u8] = b"\xad\x0b\0\x40\x10\0\0\0own\x21\x10\0\0\0";
-
-/// Parts of a file.
-type Parts = &'static [&'static [u8]];
-
-/// The number of frames read, and of records left out as truncated, snapped, long and short; or a refusal's number
-/// and record.
-type Answer = Result<(usize, [u64; 4]), (u8, u64)>;
 
 /// Files that are read without options: sections in both orders, skipped blocks, simple packets.
 const READ: &[(Parts, usize)] = &[
@@ -148,34 +142,11 @@ const SKIPPED: &[(Parts, Answer)] = &[
     (&[SECTION, RAW, PACKET], Err((92, 0))),
 ];
 
-fn answer(alloc: Global, bytes: &[u8], skip: bool) -> Answer {
-    let limit = None;
-    match read_with(alloc, bytes, ReadOptions { skip, limit }) {
-        Ok((capture, left_out)) => {
-            let counts = [
-                left_out.truncated,
-                left_out.snapped,
-                left_out.long,
-                left_out.short,
-            ];
-            Ok((capture.records().len(), counts))
-        }
-        Err(refused) => Err((refused.number(), refused.record().unwrap_or(0))),
-    }
-}
-
-fn joined(alloc: Global, parts: &[&[u8]]) -> Result<Vec<u8>, AllocError> {
-    let mut bytes = Vec::new(alloc);
-    for part in parts {
-        bytes.extend_from_slice(part)?;
-    }
-    Ok(bytes)
-}
-
 /// The result for the file with these parts.
 fn is_answered<R: Abort>(rt: &R, alloc: Global, parts: Parts, skip: bool, wanted: Answer) {
     let bytes = joined(alloc, parts).expect(rt, "memory");
-    let told = answer(alloc, bytes.as_slice(), skip);
+    let limit = None;
+    let told = answer_with(alloc, bytes.as_slice(), ReadOptions { skip, limit });
     same(rt, (parts, told), (parts, wanted));
 }
 

@@ -1,8 +1,9 @@
 //! Captures that are refused, and the order of refusals.
 
+use crate::tests::texts::files::joined;
 use crate::tests::wanted::same;
 use capture::{CaptureError, CaptureRecord, TimeUnit, read, write};
-use std::alloc::{AllocError, Global};
+use std::alloc::Global;
 use std::process::Abort;
 
 /// A frame of 14 bytes.
@@ -79,14 +80,6 @@ const FILES: &[(&[&[u8]], Answer)] = &[
     (&[LITTLE, FIFTEEN_SHORT, FRAME], (93, 1)),
     (&[LITTLE, WHOLE, FRAME, SHORT, FRAME], (94, 2)),
 ];
-
-fn joined(alloc: Global, parts: &[&[u8]]) -> Result<Vec<u8>, AllocError> {
-    let mut bytes = Vec::new(alloc);
-    for part in parts {
-        bytes.extend_from_slice(part)?;
-    }
-    Ok(bytes)
-}
 
 /// The result for the file with these parts.
 fn is_answered<R: Abort>(rt: &R, alloc: Global, parts: &[&[u8]], wanted: Answer) {

@@ -1,7 +1,8 @@
 //! Captures read with options: faulty records left out and counted, and a limit.
 
+use crate::tests::texts::files::{Answer, Parts, answer_with, joined};
 use crate::tests::wanted::same;
-use capture::{ReadOptions, read_with};
+use capture::ReadOptions;
 use std::alloc::{AllocError, Global};
 use std::process::Abort;
 
@@ -20,69 +21,53 @@ const CUT: &[u8] = b"\x01\0\0\0\x02\0\0\0\x0e\0\0\0\x0e\0\0\0abcdefghijklm";
 /// The header of a record of 15,001 bytes.
 const LONG: &[u8] = b"\x01\0\0\0\x02\0\0\0\x99\x3a\0\0\x99\x3a\0\0";
 
-/// Parts of a file.
-type Parts = &'static [&'static [u8]];
-
 /// Whether faults are skipped, and the limit.
 type Options = (bool, Option<u32>);
 
-/// The number of frames read, and of records left out as truncated, snapped, long and short; or a refusal's number
-/// and record.
-type Answer = Result<(usize, [u64; 4]), (u8, u64)>;
-
-/// With `skip`, a file of a header and these parts is read to its end; with a limit, up to its last frame.
+/// With `skip`, a file is read to its end; with a limit, up to its last frame.
 const ROWS: &[(Parts, Options, Answer)] = &[
-    (&[], (true, None), Ok((0, [0, 0, 0, 0]))),
-    (&[WHOLE, CUT], (true, None), Ok((1, [1, 0, 0, 0]))),
-    (&[WHOLE, b"\x01"], (true, None), Ok((1, [1, 0, 0, 0]))),
+    (&[HEADER], (true, None), Ok((0, [0, 0, 0, 0]))),
+    (&[HEADER, WHOLE, CUT], (true, None), Ok((1, [1, 0, 0, 0]))),
     (
-        &[SNAPPED, WHOLE, SHORT, SNAPPED, WHOLE],
+        &[HEADER, WHOLE, b"\x01"],
+        (true, None),
+        Ok((1, [1, 0, 0, 0])),
+    ),
+    (
+        &[HEADER, SNAPPED, WHOLE, SHORT, SNAPPED, WHOLE],
         (true, None),
         Ok((2, [0, 2, 0, 1])),
     ),
     (
-        &[WHOLE, WHOLE, WHOLE],
+        &[HEADER, WHOLE, WHOLE, WHOLE],
         (false, Some(2)),
         Ok((2, [0, 0, 0, 0])),
     ),
     (
-        &[WHOLE, WHOLE, CUT],
+        &[HEADER, WHOLE, WHOLE, CUT],
         (false, Some(2)),
         Ok((2, [0, 0, 0, 0])),
     ),
-    (&[WHOLE, SHORT, WHOLE], (false, Some(2)), Err((95, 2))),
     (
-        &[SHORT, WHOLE, SNAPPED, WHOLE, CUT],
+        &[HEADER, WHOLE, SHORT, WHOLE],
+        (false, Some(2)),
+        Err((95, 2)),
+    ),
+    (
+        &[HEADER, SHORT, WHOLE, SNAPPED, WHOLE, CUT],
         (true, Some(2)),
         Ok((2, [0, 1, 0, 1])),
     ),
-    (&[SHORT, WHOLE], (true, Some(0)), Ok((0, [0, 0, 0, 0]))),
-    (&[SNAPPED], (false, Some(1)), Err((94, 1))),
+    (
+        &[HEADER, SHORT, WHOLE],
+        (true, Some(0)),
+        Ok((0, [0, 0, 0, 0])),
+    ),
+    (&[HEADER, SNAPPED], (false, Some(1)), Err((94, 1))),
 ];
 
 fn answer(alloc: Global, bytes: &[u8], (skip, limit): Options) -> Answer {
-    let options = ReadOptions { skip, limit };
-    match read_with(alloc, bytes, options) {
-        Ok((capture, left_out)) => {
-            let counts = [
-                left_out.truncated,
-                left_out.snapped,
-                left_out.long,
-                left_out.short,
-            ];
-            Ok((capture.records().len(), counts))
-        }
-        Err(refused) => Err((refused.number(), refused.record().unwrap_or(0))),
-    }
-}
-
-fn joined(alloc: Global, parts: &[&[u8]]) -> Result<Vec<u8>, AllocError> {
-    let mut bytes = Vec::new(alloc);
-    bytes.extend_from_slice(HEADER)?;
-    for part in parts {
-        bytes.extend_from_slice(part)?;
-    }
-    Ok(bytes)
+    answer_with(alloc, bytes, ReadOptions { skip, limit })
 }
 
 fn is_answered<R: Abort>(
@@ -108,7 +93,7 @@ fn faulty_records_are_left_out_and_counted(rt: HostRuntime) {
 /// A record of 15,001 bytes, between two of 14.
 fn with_a_long_one(alloc: Global) -> Result<Vec<u8>, AllocError> {
     let frame = [0xa5u8; 15_001];
-    joined(alloc, &[WHOLE, LONG, &frame, WHOLE])
+    joined(alloc, &[HEADER, WHOLE, LONG, &frame, WHOLE])
 }
 
 #[test]

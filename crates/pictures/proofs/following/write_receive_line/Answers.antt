@@ -1,17 +1,10 @@
--- The name, the state and the end of the line are written one after another.
-use Rattle.std.proofs.Common.{◌∙◌, ◌++◌, List, ℕ, ap}
-use Rattle.std.specs.Prelude.{codes}
+use Rattle.std.proofs.Common.{codes}
 use Rattle.std.specs.String.{string_bytes}
-use Rattle.pictures.specs.States.{queue_members, rx_state}
-use Rattle.pictures.proofs.Joining.{three}
+use Rattle.pictures.specs.States.{rx_state}
+use Rattle.pictures.proofs.Joining.{line-written}
 use Rattle.pictures.proofs.following.write_receive_line.Goals as goal
 
 pub returns : goal.returns
 returns c =
-    let old = string_bytes c.args.text.now in
-    let p = c.args.machine.now in
-    three old (string_bytes c.write_queue_name.new.text) (string_bytes c.write_receive.new.text) (string_bytes c.push_str.new.self)
-    (queue_members (codes "r") c.args.number p.queue.size) (rx_state p) (codes "}\n")
-    (c.in_ok-write_queue_name.ensures ∙ ap (λ (n : ℕ). old ++ queue_members (codes "r") c.args.number n) c.size.ensures)
-    c.in_ok-write_receive.ensures
-    c.in_ok-push_str.ensures.bytes
+    line-written (codes "r") c.args.number _ c.args.machine.now.queue.size (rx_state c.args.machine.now) (string_bytes c.args.text.now) (string_bytes c.write_queue_name.new.text)
+    (string_bytes c.write_receive.new.text) (string_bytes c.push_str.new.self) c.size.ensures c.in_ok-write_queue_name.ensures c.in_ok-write_receive.ensures c.in_ok-push_str.ensures.bytes

@@ -1,25 +1,18 @@
 -- The members are written one after another.
-use Rattle.std.proofs.Common.{◌∙◌, ◌++◌, List, ℕ, ap}
 use Rattle.std.specs.String.{string_bytes}
-use Rattle.ring_model.specs.shared.Agreement.{Wrapped}
 use Rattle.pictures.specs.States.{controller_members, driver_members, due_member, head_member, reported_members, words_members}
-use Rattle.pictures.proofs.Joining.{six}
+use Rattle.pictures.proofs.Joining.{of_queue, six}
 use Rattle.pictures.proofs.states.write_transmit.Goals as goal
 
 pub returns : goal.returns
 returns c =
-    let old = string_bytes c.args.text.now in
-    let t1 = string_bytes c.write_words.new.text in
-    let t2 = string_bytes c.write_head_word.new.text in
-    let t3 = string_bytes c.write_driver.new.text in
-    let t4 = string_bytes c.write_reported.new.text in
-    let t5 = string_bytes c.write_controller.new.text in
-    let t6 = string_bytes c.write_due.new.text in
     let p = c.args.machine.now in
-    six old t1 t2 t3 t4 t5 t6 (words_members p.queue) (head_member p) (driver_members p.queue) (reported_members p) (controller_members p.queue) (due_member p)
-    (c.in_ok-write_words.ensures ∙ ap (λ (w : Wrapped ℕ). old ++ words_members w) c.queue.ensures)
+    six (string_bytes c.args.text.now) (string_bytes c.write_words.new.text) (string_bytes c.write_head_word.new.text) (string_bytes c.write_driver.new.text)
+    (string_bytes c.write_reported.new.text) (string_bytes c.write_controller.new.text) (string_bytes c.write_due.new.text)
+    (words_members p.queue) (head_member p) (driver_members p.queue) (reported_members p) (controller_members p.queue) (due_member p)
+    (of_queue words_members _ p.queue _ _ c.queue.ensures c.in_ok-write_words.ensures)
     c.in_ok-write_head_word.ensures
-    (c.in_ok-write_driver.ensures ∙ ap (λ (w : Wrapped ℕ). t2 ++ driver_members w) c.queue-2.ensures)
+    (of_queue driver_members _ p.queue _ _ c.queue-2.ensures c.in_ok-write_driver.ensures)
     c.in_ok-write_reported.ensures
-    (c.in_ok-write_controller.ensures ∙ ap (λ (w : Wrapped ℕ). t4 ++ controller_members w) c.queue-3.ensures)
+    (of_queue controller_members _ p.queue _ _ c.queue-3.ensures c.in_ok-write_controller.ensures)
     c.in_ok-write_due.ensures

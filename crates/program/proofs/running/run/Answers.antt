@@ -1,10 +1,10 @@
 use Rattle.std.proofs.Common.{ℕ, sym, subst}
 use Rattle.command_line.specs.CommandLine.{IsForward}
-use Rattle.command_line.specs.Sayings.{IsAsked}
+use Rattle.command_line.specs.ParsedCommands.{IsAsked}
 use Rattle.program.specs.RunEnds.{EndsSaid}
-use Rattle.command_line.specs.Sayings.Saying.{forward}
+use Rattle.command_line.specs.ParsedCommands.ParsedCommand.{forward}
 use Rattle.command_line.specs.declared.command.Asked.{Asked}
-use Rattle.command_line.proofs.Sayings.{unshown-capture, unshown-cover, unshown-forward}
+use Rattle.command_line.proofs.ParsedCommands.{unshown-capture, unshown-cover, unshown-forward}
 use Rattle.program.proofs.RunEndings.{capture-said, cover-said, forward-said, kept, request-ends, schedules-said}
 use Rattle.program.proofs.running.run.Goals as goal
 

@@ -5,6 +5,6 @@ use Rattle.ring_model.proofs.laws.control_words_fit.Goals as goal
 
 pub returns : goal.returns
 returns g c = record {
-  rx_control = λ n r h e. let k = rx_kept n r h e in k.queue.shaken.shakes;
-  tx_control = λ n r h e. let k = tx_kept n r h e in k.queue.shaken.shakes;
+  rx_control = λ n r h e. let k = rx_kept n r h e in k.queue.handshake_fits.control_fits;
+  tx_control = λ n r h e. let k = tx_kept n r h e in k.queue.handshake_fits.control_fits;
 }

@@ -1,14 +1,14 @@
 //! The lines of a receive queue's moves.
 
 use crate::tests::steps::RxNamed;
-use crate::tests::text_tests::Line;
+use crate::tests::text_tests::LineRow;
 use ring_machine::RxStep::{
     ClearHead, ClearQuiet, ClearTail, Fetch, Head, LoadQuiet, Look, Post, Publish, Reclaim, Store,
     StoreQuiet, Take,
 };
 
 /// Each line, except those of the handshake, with its step.
-pub const RECEIVE: &[Line<RxNamed>] = &[
+pub const RECEIVE: &[LineRow<RxNamed>] = &[
     ("A1 0", Post(0)),
     ("A1 65535", Post(65_535)),
     ("A2", Publish),

@@ -1,14 +1,14 @@
 //! The lines of a transmit queue's moves.
 
 use crate::tests::steps::TxNamed;
-use crate::tests::text_tests::Line;
+use crate::tests::text_tests::LineRow;
 use ring_machine::TxStep::{
     Clean, ClearHead, ClearReport, ClearTail, Fetch, LoadReport, Look, Post, Publish, Reclaim,
     Report, Send,
 };
 
 /// Each line, except those of the handshake, with its step.
-pub const TRANSMIT: &[Line<TxNamed>] = &[
+pub const TRANSMIT: &[LineRow<TxNamed>] = &[
     ("B1 0 1 0 0 14", Post((0, 1, false, false, 14))),
     (
         "B1 65535 2048 1 1 15000",

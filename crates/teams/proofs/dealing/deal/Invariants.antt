@@ -10,8 +10,8 @@ invariant-loop-item g l =
     (done : List _) × record {
       all : l.fn.items.items ≡ done ++ into_iter_items l.item-iterator;
       count : vec_len l.hands ≡ many;
-      turn : l.turn < many;
-      gaps : (w : ℕ) → w < many → Gap many l.turn w (after many w done);
+      worker : l.worker < many;
+      gaps : (w : ℕ) → w < many → Gap many l.worker w (after many w done);
       dealt : IsDealt done (map (λ h. h.items) (vec_items l.hands));
       room : All (HasRoom (vec_len l.fn.items) (into_iter_len l.item-iterator)) (vec_items l.hands);
     }

@@ -6,7 +6,7 @@ abbrev pub invariant-loop : goal.invariant-loop
 invariant-loop g l =
     record {
       keys : map g.F.Flow.key l.flows.items ≡ map g.F.Flow.key l.fn.flows.items;
-      word : l.standing.word ≡ l.fn.standing.word;
-      share : l.standing.share ≡ l.fn.standing.share;
-      going : l.standing.ending ≡ Done;
+      word : l.status.word ≡ l.fn.status.word;
+      share : l.status.share ≡ l.fn.status.share;
+      going : l.status.ending ≡ Done;
     }

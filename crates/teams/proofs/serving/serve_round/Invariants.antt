@@ -7,7 +7,7 @@ invariant-loop-i g l =
     record {
       keys : map g.F.Flow.key l.flows ≡ map g.F.Flow.key l.fn.flows;
       over : l.all_over ≡ true → (k : ℕ) (d : _) → k < l.i → g.F.Flow.over (get_or l.flows k d) ≡ true;
-      word : l.standing.word ≡ l.fn.standing.word;
-      share : l.standing.share ≡ l.fn.standing.share;
-      going : l.standing.ending ≡ Done;
+      word : l.status.word ≡ l.fn.status.word;
+      share : l.status.share ≡ l.fn.status.share;
+      going : l.status.ending ≡ Done;
     }

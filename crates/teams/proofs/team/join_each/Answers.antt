@@ -7,7 +7,7 @@ use Rattle.teams.proofs.Together.{so-worse}
 use Rattle.teams.proofs.team.join_each.Goals as goal
 
 pub join_one-served-requires-clause-so : goal.join_one-served-requires-clause-so
-join_one-served-requires-clause-so g c = λ κs lasts. All-first (λ b. MatchResult b (λ w. (w.promise.gate.now ≡ c.args.gate.now) × (w.promise.stop.now ≡ c.args.stop.now)) (λ s. IsEnded (All (λ f. g.F.Flow.over f ≡ true) s.flows.items) g.G.Gate.answers c.args.gate.now c.args.stop.now s.standing)) (into_iter_items c.loop-begun.begun-iterator) c.in-Some.begun (into_iter_items c.next.new.self) c.in-Some.ensures.steps.0 c.loop-begun.invariant.so
+join_one-served-requires-clause-so g c = λ κs lasts. All-first (λ b. MatchResult b (λ w. (w.promise.gate.now ≡ c.args.gate.now) × (w.promise.stop.now ≡ c.args.stop.now)) (λ s. IsEnded (All (λ f. g.F.Flow.over f ≡ true) s.flows.items) g.G.Gate.answers c.args.gate.now c.args.stop.now s.status)) (into_iter_items c.loop-begun.begun-iterator) c.in-Some.begun (into_iter_items c.next.new.self) c.in-Some.ensures.steps.0 c.loop-begun.invariant.so
 
 pub loop-begun-preserved : goal.loop-begun-preserved
 loop-begun-preserved g c =
@@ -29,11 +29,11 @@ loop-begun-preserved g c =
       keys = shifted (λ h. map key h.items) hands more served.flows (map (given_by (λ w. map g.F.Flow.key w.promise.given.value.items) (λ s. map g.F.Flow.key s.flows.items)) first) (map (given_by (λ w. map g.F.Flow.key w.promise.given.value.items) (λ s. map g.F.Flow.key s.flows.items)) tail) (given_by (λ w. map g.F.Flow.key w.promise.given.value.items) (λ s. map g.F.Flow.key s.flows.items) begun)
           (ap (map (given_by (λ w. map g.F.Flow.key w.promise.given.value.items) (λ s. map g.F.Flow.key s.flows.items))) step.0) pushed one.keys ∙ was.keys;
       room = search rules;
-      so = All-later (λ b. MatchResult b (λ w. (w.promise.gate.now ≡ c.args.gate.now) × (w.promise.stop.now ≡ c.args.stop.now)) (λ s. IsEnded (All (λ f. g.F.Flow.over f ≡ true) s.flows.items) g.G.Gate.answers c.args.gate.now c.args.stop.now s.standing)) first begun tail step.0 was.so;
+      so = All-later (λ b. MatchResult b (λ w. (w.promise.gate.now ≡ c.args.gate.now) × (w.promise.stop.now ≡ c.args.stop.now)) (λ s. IsEnded (All (λ f. g.F.Flow.over f ≡ true) s.flows.items) g.G.Gate.answers c.args.gate.now c.args.stop.now s.status)) first begun tail step.0 was.so;
       ending = subst (λ z. IsSo (AllOver over more) answers gate z.ending) (sym c.join.ensures)
           (so-worse answers gate (AllOver over hands) (All (λ f. over f ≡ true) served.flows.items) (AllOver over more)
           (λ others one. All-pushed (λ h. All (λ f. over f ≡ true) h.items) hands more served.flows pushed others one)
-          c.loop-begun.standing.ending served.standing.ending was.ending one.ended.0);
+          c.loop-begun.status.ending served.status.ending was.ending one.ended.0);
       word = search rules;
       share = search rules;
     }

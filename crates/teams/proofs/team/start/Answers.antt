@@ -15,7 +15,7 @@ loop-hand-preserved g c =
       given = shifted (given_by (λ w. map key w.promise.given.value.items) (λ s. map key s.flows.items)) (vec_items c.loop-hand.team) _ c.begin.result
           (hand_keys key (into_iter_items c.loop-hand.hand-iterator)) (hand_keys key (into_iter_items c.next.new.self)) (map key c.in-Some.hand.items)
           (ap (hand_keys key) step.0) pushed c.begin.ensures.given ∙ was.given;
-      so = All-pushed (λ b. MatchResult b (λ w. (w.promise.gate.now ≡ c.args.gate.now) × (w.promise.stop.now ≡ c.args.stop.now)) (λ s. IsEnded (All (λ f. g.F.Flow.over f ≡ true) s.flows.items) g.G.Gate.answers c.args.gate.now c.args.stop.now s.standing)) (vec_items c.loop-hand.team) _ c.begin.result pushed was.so c.begin.ensures.so;
+      so = All-pushed (λ b. MatchResult b (λ w. (w.promise.gate.now ≡ c.args.gate.now) × (w.promise.stop.now ≡ c.args.stop.now)) (λ s. IsEnded (All (λ f. g.F.Flow.over f ≡ true) s.flows.items) g.G.Gate.answers c.args.gate.now c.args.stop.now s.status)) (vec_items c.loop-hand.team) _ c.begin.result pushed was.so c.begin.ensures.so;
       count = search rules;
       room = search rules;
       word = search rules;

@@ -2,8 +2,8 @@
 ghost use Rattle.std.specs.Prelude.{◌≡◌, ◌<◌, ◌≤◌};
 
 use crate::made;
+use crate::tests::drivers::expected::{Call, Expected};
 use crate::tests::drivers::stashes::cut;
-use crate::tests::drivers::told::{Call, Told};
 use arrayvec::ArrayVec;
 use buffer_pool::{Packet, Stash};
 use driver::{DriverError, MOST_BATCH, QueueDriver, RxDriver};
@@ -105,14 +105,14 @@ impl Both {
         self.storer.answer(&self.ring)
     }
 
-    fn own(&mut self, call: RxCall) -> Told {
+    fn own(&mut self, call: RxCall) -> Expected {
         match call {
-            RxCall::Store(len, eop, byte) => return Told::whether(self.store(len, eop, byte)),
-            RxCall::Frames(count, first) => return Told::Count(self.store_frames(count, first)),
-            RxCall::IsQuiet => return Told::whether(self.driver.is_quiet(&self.ring)),
-            RxCall::HasChain => return Told::whether(self.driver.has_chain()),
+            RxCall::Store(len, eop, byte) => return Expected::whether(self.store(len, eop, byte)),
+            RxCall::Frames(count, first) => return Expected::Count(self.store_frames(count, first)),
+            RxCall::IsQuiet => return Expected::whether(self.driver.is_quiet(&self.ring)),
+            RxCall::HasChain => return Expected::whether(self.driver.has_chain()),
             RxCall::Packet(k, lens, first) => {
-                return Told::whether(is_chain(self.packets.get(k), &lens, first));
+                return Expected::whether(is_chain(self.packets.get(k), &lens, first));
             }
             RxCall::SayQuiet => self.storer.say_quiet(&self.ring),
             RxCall::Cut(buffers) => cut(&mut self.stash, buffers),
@@ -120,16 +120,16 @@ impl Both {
             RxCall::Blanks(count) => self.add_blanks(count),
             RxCall::Clear => self.packets.clear(),
         }
-        Told::Yes
+        Expected::True
     }
 }
 
 impl Tells for Both {
     type Step = Call<RxCall>;
 
-    type Told = Told;
+    type Expected = Expected;
 
-    fn make(&mut self, step: Call<RxCall>) -> Told {
+    fn make(&mut self, step: Call<RxCall>) -> Expected {
         made!(self, step, rx_batch)
     }
 }

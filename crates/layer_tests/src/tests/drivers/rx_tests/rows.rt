@@ -1,8 +1,8 @@
 //! Worked rows of a receive driver.
 ghost use Rattle.std.specs.Prelude.{◌<◌, ◌≤◌};
 
+use crate::tests::drivers::expected::{Call, Expected};
 use crate::tests::drivers::rx_tests::both::{Both, RxCall};
-use crate::tests::drivers::told::{Call, Told};
 use crate::tests::wanted::same;
 use driver::DriverError;
 use ring_tests::told_so;
@@ -10,7 +10,7 @@ use std::alloc::Global;
 use std::process::Abort;
 
 /// A call, and its expected result.
-type Row = (Call<RxCall>, Told);
+type Row = (Call<RxCall>, Expected);
 
 /// Checks all rows, one part after another, on a ring of 8 that is not enabled, in batches of `batch`, with `buffers`
 /// buffers at hand. No other function here owns a driver, since each one that does is costly to prove.
@@ -26,9 +26,9 @@ fn each_tells<R: Abort>(rt: &R, alloc: Global, batch: usize, buffers: usize, par
 
 /// The queue is enabled.
 const ENABLED: &[Row] = &[
-    (Call::Enable, Told::No),
-    (Call::Answer, Told::Yes),
-    (Call::Enable, Told::Yes),
+    (Call::Enable, Expected::False),
+    (Call::Answer, Expected::True),
+    (Call::Enable, Expected::True),
 ];
 
 /// Each refusal.
@@ -54,28 +54,28 @@ fn refusals_have_a_number_and_a_text(rt: HostRuntime) {
 /// A batch fills the ring and takes what is done.
 const FILLED: &[&[Row]] = &[
     &[
-        (Call::Batch, Told::Refused(DriverError::QueueOff)),
-        (Call::AtHand, Told::Count(10)),
+        (Call::Batch, Expected::Refused(DriverError::QueueOff)),
+        (Call::AtHand, Expected::Count(10)),
     ],
     ENABLED,
     &[
         // seven are posted and published
-        (Call::Room, Told::Count(7)),
-        (Call::Batch, Told::Count(0)),
-        (Call::Room, Told::Count(0)),
-        (Call::AtHand, Told::Count(3)),
-        (Call::Own(RxCall::Frames(3, 0)), Told::Count(3)),
+        (Call::Room, Expected::Count(7)),
+        (Call::Batch, Expected::Count(0)),
+        (Call::Room, Expected::Count(0)),
+        (Call::AtHand, Expected::Count(3)),
+        (Call::Own(RxCall::Frames(3, 0)), Expected::Count(3)),
         // two more are posted, after the first two segments
-        (Call::Own(RxCall::Cut(2)), Told::Yes),
-        (Call::Batch, Told::Count(3)),
-        (Call::Listed, Told::Count(3)),
-        (Call::Room, Told::Count(1)),
-        (Call::AtHand, Told::Count(0)),
-        (Call::Own(RxCall::Packet(0, [60, 0, 0], 0)), Told::Yes),
-        (Call::Own(RxCall::Packet(1, [60, 0, 0], 1)), Told::Yes),
-        (Call::Own(RxCall::Packet(2, [60, 0, 0], 2)), Told::Yes),
+        (Call::Own(RxCall::Cut(2)), Expected::True),
+        (Call::Batch, Expected::Count(3)),
+        (Call::Listed, Expected::Count(3)),
+        (Call::Room, Expected::Count(1)),
+        (Call::AtHand, Expected::Count(0)),
+        (Call::Own(RxCall::Packet(0, [60, 0, 0], 0)), Expected::True),
+        (Call::Own(RxCall::Packet(1, [60, 0, 0], 1)), Expected::True),
+        (Call::Own(RxCall::Packet(2, [60, 0, 0], 2)), Expected::True),
         // what was posted is published: six descriptors are free
-        (Call::Own(RxCall::Frames(7, 0)), Told::Count(6)),
+        (Call::Own(RxCall::Frames(7, 0)), Expected::Count(6)),
     ],
 ];
 
@@ -83,18 +83,18 @@ const FILLED: &[&[Row]] = &[
 const ENDED: &[&[Row]] = &[
     ENABLED,
     &[
-        (Call::Batch, Told::Count(0)),
-        (Call::Own(RxCall::Frames(6, 0)), Told::Count(6)),
-        (Call::Batch, Told::Count(2)),
-        (Call::Batch, Told::Count(2)),
-        (Call::Listed, Told::Count(4)),
-        (Call::Own(RxCall::Blanks(31)), Told::Yes),
-        (Call::Batch, Told::Count(1)),
-        (Call::Listed, Told::Count(32)),
-        (Call::Batch, Told::Count(0)),
-        (Call::Own(RxCall::Clear), Told::Yes),
-        (Call::Batch, Told::Count(1)),
-        (Call::Batch, Told::Count(0)),
+        (Call::Batch, Expected::Count(0)),
+        (Call::Own(RxCall::Frames(6, 0)), Expected::Count(6)),
+        (Call::Batch, Expected::Count(2)),
+        (Call::Batch, Expected::Count(2)),
+        (Call::Listed, Expected::Count(4)),
+        (Call::Own(RxCall::Blanks(31)), Expected::True),
+        (Call::Batch, Expected::Count(1)),
+        (Call::Listed, Expected::Count(32)),
+        (Call::Batch, Expected::Count(0)),
+        (Call::Own(RxCall::Clear), Expected::True),
+        (Call::Batch, Expected::Count(1)),
+        (Call::Batch, Expected::Count(0)),
     ],
 ];
 
@@ -108,72 +108,72 @@ fn a_batch_fills_the_ring_takes_what_is_done_and_has_an_end(rt: HostRuntime) {
 const CHAINED: &[&[Row]] = &[
     ENABLED,
     &[
-        (Call::Batch, Told::Count(0)),
-        (Call::Own(RxCall::Store(2_048, false, 0)), Told::Yes),
-        (Call::Own(RxCall::Store(1_000, false, 1)), Told::Yes),
-        (Call::Batch, Told::Count(0)),
-        (Call::Own(RxCall::HasChain), Told::Yes),
-        (Call::Own(RxCall::Frames(2, 2)), Told::Count(2)),
-        (Call::Batch, Told::Count(2)),
-        (Call::Own(RxCall::HasChain), Told::No),
-        (Call::Listed, Told::Count(2)),
+        (Call::Batch, Expected::Count(0)),
+        (Call::Own(RxCall::Store(2_048, false, 0)), Expected::True),
+        (Call::Own(RxCall::Store(1_000, false, 1)), Expected::True),
+        (Call::Batch, Expected::Count(0)),
+        (Call::Own(RxCall::HasChain), Expected::True),
+        (Call::Own(RxCall::Frames(2, 2)), Expected::Count(2)),
+        (Call::Batch, Expected::Count(2)),
+        (Call::Own(RxCall::HasChain), Expected::False),
+        (Call::Listed, Expected::Count(2)),
         (
             Call::Own(RxCall::Packet(0, [2_048, 1_000, 60], 0)),
-            Told::Yes,
+            Expected::True,
         ),
-        (Call::Own(RxCall::Packet(1, [60, 0, 0], 3)), Told::Yes),
+        (Call::Own(RxCall::Packet(1, [60, 0, 0], 3)), Expected::True),
     ],
 ];
 
 /// Disabled, reclaimed and renewed.
 const RENEWED: &[&[Row]] = &[
     &[
-        (Call::AskDisable, Told::Refused(DriverError::QueueOff)),
-        (Call::FinishDisable, Told::No),
-        (Call::Reclaim, Told::Count(0)),
+        (Call::AskDisable, Expected::Refused(DriverError::QueueOff)),
+        (Call::FinishDisable, Expected::False),
+        (Call::Reclaim, Expected::Count(0)),
     ],
     ENABLED,
     &[
-        (Call::Batch, Told::Count(0)),
-        (Call::Renew, Told::Refused(DriverError::NotReclaimed)),
+        (Call::Batch, Expected::Count(0)),
+        (Call::Renew, Expected::Refused(DriverError::NotReclaimed)),
         // a chain of two, whose end is left
-        (Call::Own(RxCall::Store(60, false, 0)), Told::Yes),
-        (Call::Own(RxCall::Store(60, false, 1)), Told::Yes),
-        (Call::Batch, Told::Count(0)),
-        (Call::Own(RxCall::Store(60, true, 2)), Told::Yes),
-        (Call::AskDisable, Told::Yes),
-        (Call::AskDisable, Told::Refused(DriverError::QueueOff)),
-        (Call::Enable, Told::No),
-        (Call::FinishDisable, Told::No),
-        (Call::Answer, Told::No),
-        (Call::FinishDisable, Told::Count(1)),
-        (Call::FinishDisable, Told::No),
-        (Call::Batch, Told::Refused(DriverError::QueueOff)),
-        (Call::Enable, Told::Refused(DriverError::NotReclaimed)),
+        (Call::Own(RxCall::Store(60, false, 0)), Expected::True),
+        (Call::Own(RxCall::Store(60, false, 1)), Expected::True),
+        (Call::Batch, Expected::Count(0)),
+        (Call::Own(RxCall::Store(60, true, 2)), Expected::True),
+        (Call::AskDisable, Expected::True),
+        (Call::AskDisable, Expected::Refused(DriverError::QueueOff)),
+        (Call::Enable, Expected::False),
+        (Call::FinishDisable, Expected::False),
+        (Call::Answer, Expected::False),
+        (Call::FinishDisable, Expected::Count(1)),
+        (Call::FinishDisable, Expected::False),
+        (Call::Batch, Expected::Refused(DriverError::QueueOff)),
+        (Call::Enable, Expected::Refused(DriverError::NotReclaimed)),
         // room for two of seven: those of the chain
-        (Call::Own(RxCall::Exchange), Told::Yes),
-        (Call::Own(RxCall::Cut(254)), Told::Yes),
-        (Call::Reclaim, Told::Refused(DriverError::StashFull)),
-        (Call::AtHand, Told::Count(256)),
-        (Call::Own(RxCall::HasChain), Told::No),
-        (Call::Renew, Told::Refused(DriverError::NotReclaimed)),
-        (Call::Own(RxCall::Exchange), Told::Yes),
-        (Call::AtHand, Told::Count(0)),
-        (Call::Reclaim, Told::Count(5)),
-        (Call::Reclaim, Told::Count(0)),
-        (Call::Enable, Told::Refused(DriverError::NotReclaimed)),
-        (Call::Renew, Told::Yes),
-        (Call::Renew, Told::Refused(DriverError::NotReclaimed)),
+        (Call::Own(RxCall::Exchange), Expected::True),
+        (Call::Own(RxCall::Cut(254)), Expected::True),
+        (Call::Reclaim, Expected::Refused(DriverError::StashFull)),
+        (Call::AtHand, Expected::Count(256)),
+        (Call::Own(RxCall::HasChain), Expected::False),
+        (Call::Renew, Expected::Refused(DriverError::NotReclaimed)),
+        (Call::Own(RxCall::Exchange), Expected::True),
+        (Call::AtHand, Expected::Count(0)),
+        (Call::Reclaim, Expected::Count(5)),
+        (Call::Reclaim, Expected::Count(0)),
+        (Call::Enable, Expected::Refused(DriverError::NotReclaimed)),
+        (Call::Renew, Expected::True),
+        (Call::Renew, Expected::Refused(DriverError::NotReclaimed)),
     ],
     ENABLED,
     &[
-        (Call::Batch, Told::Count(0)),
-        (Call::Room, Told::Count(2)),
-        (Call::Own(RxCall::Store(60, true, 0)), Told::Yes),
-        (Call::Batch, Told::Count(1)),
-        (Call::AskDisable, Told::Yes),
-        (Call::Answer, Told::No),
-        (Call::FinishDisable, Told::Count(0)),
+        (Call::Batch, Expected::Count(0)),
+        (Call::Room, Expected::Count(2)),
+        (Call::Own(RxCall::Store(60, true, 0)), Expected::True),
+        (Call::Batch, Expected::Count(1)),
+        (Call::AskDisable, Expected::True),
+        (Call::Answer, Expected::False),
+        (Call::FinishDisable, Expected::Count(0)),
     ],
 ];
 
@@ -181,14 +181,14 @@ const RENEWED: &[&[Row]] = &[
 const QUIET: &[&[Row]] = &[
     ENABLED,
     &[
-        (Call::Batch, Told::Count(0)),
-        (Call::Own(RxCall::IsQuiet), Told::No),
-        (Call::Own(RxCall::Store(60, true, 0)), Told::Yes),
-        (Call::Own(RxCall::SayQuiet), Told::Yes),
-        (Call::Own(RxCall::IsQuiet), Told::Yes),
-        (Call::Own(RxCall::Store(60, true, 1)), Told::No),
-        (Call::Batch, Told::Count(1)),
-        (Call::Batch, Told::Count(0)),
+        (Call::Batch, Expected::Count(0)),
+        (Call::Own(RxCall::IsQuiet), Expected::False),
+        (Call::Own(RxCall::Store(60, true, 0)), Expected::True),
+        (Call::Own(RxCall::SayQuiet), Expected::True),
+        (Call::Own(RxCall::IsQuiet), Expected::True),
+        (Call::Own(RxCall::Store(60, true, 1)), Expected::False),
+        (Call::Batch, Expected::Count(1)),
+        (Call::Batch, Expected::Count(0)),
     ],
 ];
 

@@ -3,8 +3,8 @@ ghost use Rattle.std.specs.Prelude.{◌≡◌, All};
 ghost use Rattle.buffer_pool.specs.Packed.{IsPacket};
 
 use crate::made;
+use crate::tests::drivers::expected::{Call, Expected};
 use crate::tests::drivers::stashes::cut;
-use crate::tests::drivers::told::{Call, Told};
 use arrayvec::ArrayVec;
 use buffer_pool::{Buf, Packet, STASH_BUFFERS, Stash, Stock};
 use descriptor::TxRead;
@@ -140,17 +140,17 @@ impl Queue {
         self.controller.is_serving()
     }
 
-    fn own(&mut self, call: TxCall) -> Told {
+    fn own(&mut self, call: TxCall) -> Expected {
         match call {
-            TxCall::Ready => return Told::Count(self.ready() as usize),
-            TxCall::Asks(reports) => return Told::whether(self.ask(reports)),
-            TxCall::Word(word) => return Told::whether(has_word(self.send(), word)),
-            TxCall::Clean => return Told::Count(self.driver.clean(&self.ring, &mut self.stash)),
+            TxCall::Ready => return Expected::Count(self.ready() as usize),
+            TxCall::Asks(reports) => return Expected::whether(self.ask(reports)),
+            TxCall::Word(word) => return Expected::whether(has_word(self.send(), word)),
+            TxCall::Clean => return Expected::Count(self.driver.clean(&self.ring, &mut self.stash)),
             TxCall::Add(count, segments, len) => self.add(count, segments, len),
             TxCall::Fill(room) => self.fill_stash(room),
             TxCall::Drop => cut(&mut self.stash, 0),
         }
-        Told::Yes
+        Expected::True
     }
 }
 
@@ -199,9 +199,9 @@ fn packet(stock: &mut Stock, segments: usize, len: usize) -> Packet {
 impl Tells for Queue {
     type Step = Call<TxCall>;
 
-    type Told = Told;
+    type Expected = Expected;
 
-    fn make(&mut self, step: Call<TxCall>) -> Told {
+    fn make(&mut self, step: Call<TxCall>) -> Expected {
         made!(self, step, tx_batch)
     }
 }

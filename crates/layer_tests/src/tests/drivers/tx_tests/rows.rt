@@ -1,6 +1,6 @@
 //! Worked rows of a transmit driver.
 
-use crate::tests::drivers::told::{Call, Told};
+use crate::tests::drivers::expected::{Call, Expected};
 use crate::tests::drivers::tx_tests::queue::{Places, Queue, TxCall};
 use crate::tests::wanted::same;
 use driver::DriverError;
@@ -10,7 +10,7 @@ use std::process::Abort;
 use tx_ring::Completion;
 
 /// A call, and its expected result.
-type Row = (Call<TxCall>, Told);
+type Row = (Call<TxCall>, Expected);
 
 /// Checks all rows, one part after another, on a ring of 8 that is not enabled, and returns the places of its buffers
 /// afterwards. No other function here owns a queue, since each one that does is costly to prove.
@@ -24,36 +24,36 @@ fn each_tells<R: Abort>(rt: &R, alloc: Global, completion: Completion, parts: &[
 
 /// The queue is enabled.
 const ENABLED: &[Row] = &[
-    (Call::Enable, Told::No),
-    (Call::Answer, Told::Yes),
-    (Call::Enable, Told::Yes),
+    (Call::Enable, Expected::False),
+    (Call::Answer, Expected::True),
+    (Call::Enable, Expected::True),
 ];
 
 const BOTH_WAYS: &[Completion] = &[Completion::Status, Completion::Head];
 
 const TEN: &[&[Row]] = &[
-    &[(Call::Own(TxCall::Add(10, 1, 60)), Told::Yes)],
+    &[(Call::Own(TxCall::Add(10, 1, 60)), Expected::True)],
     ENABLED,
     &[
-        (Call::Batch, Told::Count(7)),
-        (Call::Listed, Told::Count(3)),
-        (Call::Room, Told::Count(0)),
-        (Call::Own(TxCall::Ready), Told::Count(7)),
-        (Call::Batch, Told::Count(0)),
+        (Call::Batch, Expected::Count(7)),
+        (Call::Listed, Expected::Count(3)),
+        (Call::Room, Expected::Count(0)),
+        (Call::Own(TxCall::Ready), Expected::Count(7)),
+        (Call::Batch, Expected::Count(0)),
         (
             Call::Own(TxCall::Asks(&[false, false, false, true, false])),
-            Told::Yes,
+            Expected::True,
         ),
-        (Call::Batch, Told::Count(3)),
-        (Call::Listed, Told::Count(0)),
-        (Call::AtHand, Told::Count(4)),
-        (Call::Room, Told::Count(1)),
-        (Call::Own(TxCall::Ready), Told::Count(5)),
+        (Call::Batch, Expected::Count(3)),
+        (Call::Listed, Expected::Count(0)),
+        (Call::AtHand, Expected::Count(4)),
+        (Call::Room, Expected::Count(1)),
+        (Call::Own(TxCall::Ready), Expected::Count(5)),
         (
             Call::Own(TxCall::Asks(&[false, true, true, false, true])),
-            Told::Yes,
+            Expected::True,
         ),
-        (Call::Own(TxCall::Ready), Told::Count(0)),
+        (Call::Own(TxCall::Ready), Expected::Count(0)),
     ],
 ];
 
@@ -80,37 +80,55 @@ fn batches_of_ten_packets(rt: HostRuntime) {
 /// A packet that no ring of 8 has room for.
 const TOO_LONG: &[&[Row]] = &[
     &[
-        (Call::Own(TxCall::Add(1, 1, 60)), Told::Yes),
-        (Call::Batch, Told::Refused(DriverError::QueueOff)),
-        (Call::Listed, Told::Count(1)),
+        (Call::Own(TxCall::Add(1, 1, 60)), Expected::True),
+        (Call::Batch, Expected::Refused(DriverError::QueueOff)),
+        (Call::Listed, Expected::Count(1)),
     ],
     ENABLED,
     &[
-        (Call::Own(TxCall::Add(1, 9, 1_000)), Told::Yes),
-        (Call::Own(TxCall::Add(1, 1, 60)), Told::Yes),
-        (Call::Batch, Told::Count(1)),
-        (Call::Own(TxCall::Asks(&[true])), Told::Yes),
-        (Call::Batch, Told::Refused(DriverError::TooLong)),
-        (Call::AtHand, Told::Count(1)),
-        (Call::Listed, Told::Count(2)),
-        (Call::Room, Told::Count(7)),
+        (Call::Own(TxCall::Add(1, 9, 1_000)), Expected::True),
+        (Call::Own(TxCall::Add(1, 1, 60)), Expected::True),
+        (Call::Batch, Expected::Count(1)),
+        (Call::Own(TxCall::Asks(&[true])), Expected::True),
+        (Call::Batch, Expected::Refused(DriverError::TooLong)),
+        (Call::AtHand, Expected::Count(1)),
+        (Call::Listed, Expected::Count(2)),
+        (Call::Room, Expected::Count(7)),
     ],
 ];
 
 /// Six packets in one batch.
 const SIX: &[&[Row]] = &[
-    &[(Call::Own(TxCall::Add(6, 1, 60)), Told::Yes)],
+    &[(Call::Own(TxCall::Add(6, 1, 60)), Expected::True)],
     ENABLED,
     &[
-        (Call::Batch, Told::Count(6)),
-        (Call::Own(TxCall::Word(0x000f_0000_2330_003c)), Told::Yes),
-        (Call::Own(TxCall::Word(0x000f_0000_2330_003c)), Told::Yes),
-        (Call::Own(TxCall::Word(0x000f_0000_2330_003c)), Told::Yes),
-        (Call::Own(TxCall::Word(0x000f_0000_2b30_003c)), Told::Yes),
-        (Call::Own(TxCall::Word(0x000f_0000_2330_003c)), Told::Yes),
-        (Call::Own(TxCall::Word(0x000f_0000_2b30_003c)), Told::Yes),
-        (Call::Own(TxCall::Clean), Told::Count(6)),
-        (Call::Own(TxCall::Clean), Told::Count(0)),
+        (Call::Batch, Expected::Count(6)),
+        (
+            Call::Own(TxCall::Word(0x000f_0000_2330_003c)),
+            Expected::True,
+        ),
+        (
+            Call::Own(TxCall::Word(0x000f_0000_2330_003c)),
+            Expected::True,
+        ),
+        (
+            Call::Own(TxCall::Word(0x000f_0000_2330_003c)),
+            Expected::True,
+        ),
+        (
+            Call::Own(TxCall::Word(0x000f_0000_2b30_003c)),
+            Expected::True,
+        ),
+        (
+            Call::Own(TxCall::Word(0x000f_0000_2330_003c)),
+            Expected::True,
+        ),
+        (
+            Call::Own(TxCall::Word(0x000f_0000_2b30_003c)),
+            Expected::True,
+        ),
+        (Call::Own(TxCall::Clean), Expected::Count(6)),
+        (Call::Own(TxCall::Clean), Expected::Count(0)),
     ],
 ];
 
@@ -122,40 +140,40 @@ fn packets_that_are_too_long_or_go_in_one_batch(rt: HostRuntime) {
 }
 
 const RENEWED: &[&[Row]] = &[
-    &[(Call::Own(TxCall::Add(11, 1, 60)), Told::Yes)],
+    &[(Call::Own(TxCall::Add(11, 1, 60)), Expected::True)],
     ENABLED,
     &[
-        (Call::Batch, Told::Count(7)),
-        (Call::Own(TxCall::Asks(&[false, false])), Told::Yes),
-        (Call::AskDisable, Told::Yes),
-        (Call::AskDisable, Told::Refused(DriverError::QueueOff)),
-        (Call::Batch, Told::Count(0)),
-        (Call::Enable, Told::No),
-        (Call::FinishDisable, Told::No),
-        (Call::Reclaim, Told::Count(0)),
-        (Call::Answer, Told::No),
-        (Call::FinishDisable, Told::Count(5)),
-        (Call::FinishDisable, Told::No),
-        (Call::Batch, Told::Refused(DriverError::QueueOff)),
-        (Call::Own(TxCall::Clean), Told::Count(0)),
-        (Call::Renew, Told::Refused(DriverError::NotReclaimed)),
-        (Call::Own(TxCall::Fill(2)), Told::Yes),
-        (Call::Reclaim, Told::Refused(DriverError::StashFull)),
-        (Call::Room, Told::Count(2)),
-        (Call::Renew, Told::Refused(DriverError::NotReclaimed)),
-        (Call::Own(TxCall::Drop), Told::Yes),
-        (Call::Reclaim, Told::Count(5)),
-        (Call::Enable, Told::Refused(DriverError::NotReclaimed)),
-        (Call::Renew, Told::Yes),
-        (Call::Renew, Told::Refused(DriverError::NotReclaimed)),
+        (Call::Batch, Expected::Count(7)),
+        (Call::Own(TxCall::Asks(&[false, false])), Expected::True),
+        (Call::AskDisable, Expected::True),
+        (Call::AskDisable, Expected::Refused(DriverError::QueueOff)),
+        (Call::Batch, Expected::Count(0)),
+        (Call::Enable, Expected::False),
+        (Call::FinishDisable, Expected::False),
+        (Call::Reclaim, Expected::Count(0)),
+        (Call::Answer, Expected::False),
+        (Call::FinishDisable, Expected::Count(5)),
+        (Call::FinishDisable, Expected::False),
+        (Call::Batch, Expected::Refused(DriverError::QueueOff)),
+        (Call::Own(TxCall::Clean), Expected::Count(0)),
+        (Call::Renew, Expected::Refused(DriverError::NotReclaimed)),
+        (Call::Own(TxCall::Fill(2)), Expected::True),
+        (Call::Reclaim, Expected::Refused(DriverError::StashFull)),
+        (Call::Room, Expected::Count(2)),
+        (Call::Renew, Expected::Refused(DriverError::NotReclaimed)),
+        (Call::Own(TxCall::Drop), Expected::True),
+        (Call::Reclaim, Expected::Count(5)),
+        (Call::Enable, Expected::Refused(DriverError::NotReclaimed)),
+        (Call::Renew, Expected::True),
+        (Call::Renew, Expected::Refused(DriverError::NotReclaimed)),
     ],
     ENABLED,
     &[
-        (Call::Own(TxCall::Add(1, 1, 60)), Told::Yes),
-        (Call::Batch, Told::Count(5)),
+        (Call::Own(TxCall::Add(1, 1, 60)), Expected::True),
+        (Call::Batch, Expected::Count(5)),
         (
             Call::Own(TxCall::Asks(&[false, false, false, true, true])),
-            Told::Yes,
+            Expected::True,
         ),
     ],
 ];

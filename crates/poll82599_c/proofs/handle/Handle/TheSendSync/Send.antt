@@ -4,7 +4,7 @@ use denote.Struct.Owning.{shape, fields, to}
 use denote.Param.Send.{IsSend, AllSend, owning_send, struct_send, sendable}
 use Rattle.std_alloc.proofs.SendSync.{quiet}
 use Rattle.std_heap.proofs.Global.TheSendSync as handle
-use Rattle.opaque.proofs.Sending.{held_keyless}
+use Rattle.ffi_handle.proofs.Sending.{held_keyless}
 use Rattle.poll82599_c.specs.contracts.end.End as Held
 use Rattle.poll82599_c.specs.contracts.handle.Handle.{the_row, the_type}
 use Rattle.poll82599_c.proofs.Sendable.{end}

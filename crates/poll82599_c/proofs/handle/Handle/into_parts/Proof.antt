@@ -37,7 +37,7 @@ use Rattle.std_alloc.proofs.ResultValues.{and_tt}
 use Rattle.std_heap.proofs.GlobalToken.{dealloc_token-Testable}
 use Rattle.std_heap.specs.contracts.Global as Heap
 use Rattle.std_heap.specs.contracts.GlobalAllocator.TheImpl.{ghosts}
-use Rattle.opaque.specs.contracts.Parts as Parts
+use Rattle.ffi_handle.specs.contracts.Parts as Parts
 use Rattle.poll82599_c.specs.contracts.end.End as Held
 use Rattle.poll82599_c.specs.contracts.handle.Handle as Handle
 use Rattle.poll82599_c.proofs.HandleAsBox.{E, dropped, walked_there, FromHandle as From}

@@ -9,8 +9,8 @@ ghost use Rattle.ring_tests.specs.Holding.{held_as};
 
 use crate::tests::steps::rx_step;
 use crate::{
-    BUFFERS, Beside, Closed, Random, filled, full_stash, is_filled, put_back, random_control,
-    renewed, shake,
+    BUFFERS, Beside, Closed, Random, control_step, filled, full_stash, is_filled, put_back,
+    random_control, renewed,
 };
 use buffer_pool::{Buf, Stash};
 use limits::{LEAST_FRAME, MOST_FRAME, MOST_SEGMENTS};
@@ -181,8 +181,8 @@ impl Both {
         Some(Note::Quiet(1))
     }
 
-    fn shake(&mut self, step: ControlStep) -> Option<Note> {
-        shake!(self, step)
+    fn control_step(&mut self, step: ControlStep) -> Option<Note> {
+        control_step!(self, step)
     }
 
     fn publish(&mut self) -> Option<Note> {
@@ -251,7 +251,7 @@ impl Beside for Both {
             RxStep::Store(len, eop) => self.store(len, eop),
             RxStep::Take => self.take(),
             RxStep::Head => self.set_head(),
-            RxStep::Control(control) => self.shake(control),
+            RxStep::Control(control) => self.control_step(control),
             RxStep::Reclaim => self.reclaim(),
             RxStep::StoreQuiet => self.set_quiet(),
             RxStep::LoadQuiet => Some(Note::Quiet(u8::from(self.driver.is_quiet(&self.ring)))),

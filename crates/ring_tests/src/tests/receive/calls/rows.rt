@@ -18,7 +18,7 @@ pub(crate) enum Act {
     /// Makes a step up to this many times, as long as it can be made.
     Times(u32, RxNamed),
     /// Makes a step of the handshake, then checks that the driver is in this state.
-    Shake(ControlStep, State),
+    Controls(ControlStep, State),
     Enable,
     Disable,
     /// Stores this many frames of 60 bytes in one segment each, and the head after each.
@@ -35,17 +35,21 @@ pub(crate) enum Act {
 
 /// The result of an action.
 #[derive(Clone, Copy, PartialEq)]
-pub(crate) enum Told {
-    Yes,
-    No,
+pub(crate) enum Expected {
+    True,
+    False,
     Note(Option<Note>),
     Count(u32),
     Counts(Option<(u32, u32)>),
 }
 
-impl Told {
-    fn whether(holds: bool) -> Told {
-        if holds { Told::Yes } else { Told::No }
+impl Expected {
+    fn whether(holds: bool) -> Expected {
+        if holds {
+            Expected::True
+        } else {
+            Expected::False
+        }
     }
 }
 
@@ -126,34 +130,34 @@ fn go_round(both: &mut Both, frames: u32) -> u32 {
 impl Tells for Both {
     type Step = Act;
 
-    type Told = Told;
+    type Expected = Expected;
 
-    fn make(&mut self, act: Act) -> Told {
+    fn make(&mut self, act: Act) -> Expected {
         match act {
-            Act::Make(step) => Told::Note(make(self, step)),
-            Act::Times(count, step) => Told::Count(times(self, count, step)),
-            Act::Shake(step, state) => {
+            Act::Make(step) => Expected::Note(make(self, step)),
+            Act::Times(count, step) => Expected::Count(times(self, count, step)),
+            Act::Controls(step, state) => {
                 let note = self.call(RxStep::Control(step));
                 if is_in(&self.driver, state) {
-                    Told::Note(note)
+                    Expected::Note(note)
                 } else {
-                    Told::No
+                    Expected::False
                 }
             }
-            Act::Enable => Told::whether(enable(self)),
-            Act::Disable => Told::whether(disable(self)),
-            Act::Stores(frames) => Told::Count(stores(self, frames)),
-            Act::GoRound(frames) => Told::Count(go_round(self, frames)),
-            Act::Left => Told::Counts(self.left()),
-            Act::Counts => Told::Counts(Some((self.stored_count, self.taken_count))),
-            Act::HasFinished => Told::whether(self.controller.has_finished()),
-            Act::IsOff => Told::whether(self.is_off()),
+            Act::Enable => Expected::whether(enable(self)),
+            Act::Disable => Expected::whether(disable(self)),
+            Act::Stores(frames) => Expected::Count(stores(self, frames)),
+            Act::GoRound(frames) => Expected::Count(go_round(self, frames)),
+            Act::Left => Expected::Counts(self.left()),
+            Act::Counts => Expected::Counts(Some((self.stored_count, self.taken_count))),
+            Act::HasFinished => Expected::whether(self.controller.has_finished()),
+            Act::IsOff => Expected::whether(self.is_off()),
         }
     }
 }
 
 /// An action on a ring of 8, and its expected result.
-type Row = (Act, Told);
+type Row = (Act, Expected);
 
 /// The only empty place of a closed ring.
 fn empty_place(slots: &[Option<Buf>]) -> Option<usize> {
@@ -171,7 +175,7 @@ fn empty_place(slots: &[Option<Buf>]) -> Option<usize> {
 
 /// Returns how many rows agreed before the first that did not, and the only empty place of the ring when it was closed
 /// then. Generic, since an owner of a queue is expensive to prove.
-fn walked<B: Beside + Drop + Tells<Step = Act, Told = Told>>(
+fn walked<B: Beside + Drop + Tells<Step = Act, Expected = Expected>>(
     mut both: B,
     rows: &[Row],
 ) -> (usize, Option<usize>) {
@@ -188,13 +192,16 @@ fn comes_to<R: Abort>(rt: &R, alloc: Global, rows: &[Row]) -> Option<usize> {
 
 /// The head is 5 at the end, and so is the place to take next.
 const ROUND: &[Row] = &[
-    (Act::Enable, Told::Yes),
-    (Act::Times(7, RxStep::Post(0)), Told::Count(7)),
-    (Act::Make(RxStep::Publish), Told::Note(Some(Note::Tail(0)))),
-    (Act::GoRound(21), Told::Count(21)),
-    (Act::Counts, Told::Counts(Some((21, 21)))),
-    (Act::Disable, Told::Yes),
-    (Act::Left, Told::Counts(Some((0, 0)))),
+    (Act::Enable, Expected::True),
+    (Act::Times(7, RxStep::Post(0)), Expected::Count(7)),
+    (
+        Act::Make(RxStep::Publish),
+        Expected::Note(Some(Note::Tail(0))),
+    ),
+    (Act::GoRound(21), Expected::Count(21)),
+    (Act::Counts, Expected::Counts(Some((21, 21)))),
+    (Act::Disable, Expected::True),
+    (Act::Left, Expected::Counts(Some((0, 0)))),
 ];
 
 #[test]
@@ -203,39 +210,42 @@ fn frames_with_heads_go_round(rt: HostRuntime) {
 }
 
 /// The step cannot be made.
-const NOTHING: Told = Told::Note(None);
+const NOTHING: Expected = Expected::Note(None);
 
 /// A step of the handshake, with the driver's state after it and the value of the control word.
-macro_rules! shaken {
+macro_rules! after_control_step {
     ($step:ident, $state:ident, $value:expr) => {
         (
-            Act::Shake(ControlStep::$step, State::$state),
-            Told::Note(Some(Note::Control($value))),
+            Act::Controls(ControlStep::$step, State::$state),
+            Expected::Note(Some(Note::Control($value))),
         )
     };
 }
 
 /// The queue is enabled and then disabled, and nothing else can be done.
-const SHAKEN: &[Row] = &[
-    shaken!(LookAnswered, New, 0),
-    (Act::Shake(ControlStep::AskDisable, State::New), NOTHING),
-    (Act::Shake(ControlStep::Answer, State::New), NOTHING),
-    shaken!(AskEnable, Asked, 1),
-    shaken!(LookAsked, Asked, 1),
-    shaken!(Answer, Asked, 2),
-    (Act::Shake(ControlStep::Answer, State::Asked), NOTHING),
-    shaken!(LookAnswered, On, 2),
-    shaken!(AskDisable, Stopping, 3),
-    shaken!(LookAsked, Stopping, 3),
-    shaken!(LookAnswered, Stopping, 3),
-    shaken!(Answer, Stopping, 0),
-    shaken!(LookAnswered, Disabled, 0),
-    (Act::Shake(ControlStep::AskEnable, State::Disabled), NOTHING),
+const CONTROL_STEPS: &[Row] = &[
+    after_control_step!(LookAnswered, New, 0),
+    (Act::Controls(ControlStep::AskDisable, State::New), NOTHING),
+    (Act::Controls(ControlStep::Answer, State::New), NOTHING),
+    after_control_step!(AskEnable, Asked, 1),
+    after_control_step!(LookAsked, Asked, 1),
+    after_control_step!(Answer, Asked, 2),
+    (Act::Controls(ControlStep::Answer, State::Asked), NOTHING),
+    after_control_step!(LookAnswered, On, 2),
+    after_control_step!(AskDisable, Stopping, 3),
+    after_control_step!(LookAsked, Stopping, 3),
+    after_control_step!(LookAnswered, Stopping, 3),
+    after_control_step!(Answer, Stopping, 0),
+    after_control_step!(LookAnswered, Disabled, 0),
+    (
+        Act::Controls(ControlStep::AskEnable, State::Disabled),
+        NOTHING,
+    ),
 ];
 
 #[test]
 fn enabling_and_disabling_by_calls(rt: HostRuntime) {
-    comes_to(&rt, rt.alloc(), SHAKEN);
+    comes_to(&rt, rt.alloc(), CONTROL_STEPS);
 }
 
 /// The first posted buffer, with a whole frame of 60 bytes.
@@ -248,23 +258,32 @@ const TAKEN: TakenSegment = TakenSegment {
 /// Three of seven frames are stored and one is taken: two are left, neither side gets more, and seven buffers come
 /// back.
 const TWO_LEFT: &[Row] = &[
-    (Act::Enable, Told::Yes),
-    (Act::Times(7, RxStep::Post(0)), Told::Count(7)),
-    (Act::Make(RxStep::Publish), Told::Note(Some(Note::Tail(0)))),
-    (Act::Stores(3), Told::Count(3)),
+    (Act::Enable, Expected::True),
+    (Act::Times(7, RxStep::Post(0)), Expected::Count(7)),
+    (
+        Act::Make(RxStep::Publish),
+        Expected::Note(Some(Note::Tail(0))),
+    ),
+    (Act::Stores(3), Expected::Count(3)),
     (
         Act::Make(RxStep::Take),
-        Told::Note(Some(Note::Taken(Some(TAKEN)))),
+        Expected::Note(Some(Note::Taken(Some(TAKEN)))),
     ),
-    (Act::Make(RxStep::Post(0)), Told::Note(Some(Note::Place(0)))),
-    (Act::Make(RxStep::Publish), Told::Note(Some(Note::Tail(0)))),
-    (Act::Disable, Told::Yes),
-    (Act::Left, Told::Counts(Some((2, 2)))),
+    (
+        Act::Make(RxStep::Post(0)),
+        Expected::Note(Some(Note::Place(0))),
+    ),
+    (
+        Act::Make(RxStep::Publish),
+        Expected::Note(Some(Note::Tail(0))),
+    ),
+    (Act::Disable, Expected::True),
+    (Act::Left, Expected::Counts(Some((2, 2)))),
     (Act::Make(RxStep::Take), NOTHING),
     (Act::Make(RxStep::Look), NOTHING),
-    (Act::Times(7, RxStep::Reclaim), Told::Count(7)),
+    (Act::Times(7, RxStep::Reclaim), Expected::Count(7)),
     (Act::Make(RxStep::Reclaim), NOTHING),
-    (Act::IsOff, Told::Yes),
+    (Act::IsOff, Expected::True),
 ];
 
 #[test]
@@ -276,30 +295,36 @@ fn disabled_with_two_left(rt: HostRuntime) {
 /// more is stored.
 const QUIET: &[Row] = &[
     (Act::Make(RxStep::StoreQuiet), NOTHING),
-    (Act::Enable, Told::Yes),
-    (Act::Times(2, RxStep::Post(0)), Told::Count(2)),
-    (Act::Make(RxStep::Publish), Told::Note(Some(Note::Tail(0)))),
-    (Act::Stores(1), Told::Count(1)),
+    (Act::Enable, Expected::True),
+    (Act::Times(2, RxStep::Post(0)), Expected::Count(2)),
+    (
+        Act::Make(RxStep::Publish),
+        Expected::Note(Some(Note::Tail(0))),
+    ),
+    (Act::Stores(1), Expected::Count(1)),
     (
         Act::Make(RxStep::LoadQuiet),
-        Told::Note(Some(Note::Quiet(0))),
+        Expected::Note(Some(Note::Quiet(0))),
     ),
     (
         Act::Make(RxStep::StoreQuiet),
-        Told::Note(Some(Note::Quiet(1))),
+        Expected::Note(Some(Note::Quiet(1))),
     ),
-    (Act::HasFinished, Told::Yes),
-    (Act::Make(RxStep::Look), Told::Note(Some(Note::Free(1)))),
+    (Act::HasFinished, Expected::True),
+    (Act::Make(RxStep::Look), Expected::Note(Some(Note::Free(1)))),
     (Act::Make(RxStep::Fetch), NOTHING),
     (
         Act::Make(RxStep::LoadQuiet),
-        Told::Note(Some(Note::Quiet(1))),
+        Expected::Note(Some(Note::Quiet(1))),
     ),
     (
         Act::Make(RxStep::Take),
-        Told::Note(Some(Note::Taken(Some(TAKEN)))),
+        Expected::Note(Some(Note::Taken(Some(TAKEN)))),
     ),
-    (Act::Make(RxStep::Take), Told::Note(Some(Note::Taken(None)))),
+    (
+        Act::Make(RxStep::Take),
+        Expected::Note(Some(Note::Taken(None))),
+    ),
 ];
 
 #[test]

@@ -10,8 +10,8 @@ ghost use Rattle.ring_tests.specs.Begun.{AreOfFrame};
 
 use crate::tests::steps::{TxNamed, tx_step};
 use crate::{
-    BUFFERS, Beside, Closed, Random, filled, full_stash, is_filled, put_back, random_control,
-    renewed, shake,
+    BUFFERS, Beside, Closed, Random, control_step, filled, full_stash, is_filled, put_back,
+    random_control, renewed,
 };
 use buffer_pool::{Buf, Stash};
 use limits::{LEAST_FRAME, MOST_FRAME, MOST_SEGMENTS};
@@ -241,8 +241,8 @@ impl Both {
         is_next.then_some(note)
     }
 
-    fn shake(&mut self, step: ControlStep) -> Option<Note> {
-        shake!(self, step)
+    fn control_step(&mut self, step: ControlStep) -> Option<Note> {
+        control_step!(self, step)
     }
 
     /// Lets the ends meet.
@@ -333,7 +333,7 @@ impl Beside for Both {
                 is_made.then_some(Note::Reported(Some(0)))
             }
             TxStep::Clean => self.clean(),
-            TxStep::Control(control) => self.shake(control),
+            TxStep::Control(control) => self.control_step(control),
             TxStep::Reclaim => self.reclaim(),
             TxStep::ClearHead => self.renew(),
             TxStep::ClearTail | TxStep::ClearReport => None,

@@ -33,16 +33,20 @@ pub(crate) enum Act {
 
 /// The result of an action.
 #[derive(Clone, Copy, PartialEq)]
-pub(crate) enum Told {
-    Yes,
-    No,
+pub(crate) enum Expected {
+    True,
+    False,
     Note(Option<Note>),
     Counts(Option<(u32, u32)>),
 }
 
-impl Told {
-    fn whether(holds: bool) -> Told {
-        if holds { Told::Yes } else { Told::No }
+impl Expected {
+    fn whether(holds: bool) -> Expected {
+        if holds {
+            Expected::True
+        } else {
+            Expected::False
+        }
     }
 }
 
@@ -63,31 +67,31 @@ fn is_reported(both: &mut Both) -> bool {
 impl Tells for Both {
     type Step = Act;
 
-    type Told = Told;
+    type Expected = Expected;
 
-    fn make(&mut self, act: Act) -> Told {
+    fn make(&mut self, act: Act) -> Expected {
         match act {
-            Act::Make(step) => Told::Note(self.call(step_of(step))),
-            Act::Post(rs) => Told::Note(self.call(posting(60, true, rs, 60))),
-            Act::Report => Told::whether(is_reported(self)),
-            Act::Enable => Told::whether(enable(self)),
-            Act::Disable => Told::whether(disable(self)),
-            Act::Left => Told::Counts(self.left()),
-            Act::Words(frame) => Told::whether(has_words(self, &frame)),
+            Act::Make(step) => Expected::Note(self.call(step_of(step))),
+            Act::Post(rs) => Expected::Note(self.call(posting(60, true, rs, 60))),
+            Act::Report => Expected::whether(is_reported(self)),
+            Act::Enable => Expected::whether(enable(self)),
+            Act::Disable => Expected::whether(disable(self)),
+            Act::Left => Expected::Counts(self.left()),
+            Act::Words(frame) => Expected::whether(has_words(self, &frame)),
             Act::Meet => {
                 self.meet();
-                Told::Yes
+                Expected::True
             }
         }
     }
 }
 
 /// An action on a new ring, and its expected result.
-type Row = (Act, Told);
+type Row = (Act, Expected);
 
 /// Returns how many rows agreed before the first that did not. Generic, since an owner of a queue is expensive to
 /// prove.
-fn walked<B: Tells<Step = Act, Told = Told> + Drop>(mut both: B, rows: &[Row]) -> usize {
+fn walked<B: Tells<Step = Act, Expected = Expected> + Drop>(mut both: B, rows: &[Row]) -> usize {
     told_so(&mut both, rows)
 }
 
@@ -100,15 +104,15 @@ fn come_out<R: Abort>(rt: &R, alloc: Global, n: u32, rows: &[Row]) {
 }
 
 /// The step cannot be made.
-const NOTHING: Told = Told::Note(None);
+const NOTHING: Expected = Expected::Note(None);
 
 /// The report is made. Its place is 0, since no call returns one.
-const REPORTED: Told = Told::Note(Some(Note::Reported(Some(0))));
+const REPORTED: Expected = Expected::Note(Some(Note::Reported(Some(0))));
 
 /// A fetched frame of 60 bytes in the buffer of this number, with RS or without.
 macro_rules! sending {
     ($buffer:expr, $rs:expr) => {
-        Told::Note(Some(Note::Sending(
+        Expected::Note(Some(Note::Sending(
             0,
             FetchedSegment {
                 buffer: $buffer,
@@ -122,40 +126,61 @@ macro_rules! sending {
 
 /// A frame that asks for a report is sent, and cleaned once the report is made.
 const ONE: &[Row] = &[
-    (Act::Enable, Told::Yes),
-    (Act::Post(true), Told::Note(Some(Note::Place(0)))),
-    (Act::Make(TxStep::Publish), Told::Note(Some(Note::Tail(0)))),
+    (Act::Enable, Expected::True),
+    (Act::Post(true), Expected::Note(Some(Note::Place(0)))),
+    (
+        Act::Make(TxStep::Publish),
+        Expected::Note(Some(Note::Tail(0))),
+    ),
     (Act::Make(TxStep::LoadReport), NOTHING),
-    (Act::Make(TxStep::Look), Told::Note(Some(Note::Ready(1)))),
+    (
+        Act::Make(TxStep::Look),
+        Expected::Note(Some(Note::Ready(1))),
+    ),
     (Act::Make(TxStep::Fetch), sending!(31, true)),
-    (Act::Make(TxStep::Send), Told::Note(Some(Note::Head(0)))),
+    (Act::Make(TxStep::Send), Expected::Note(Some(Note::Head(0)))),
     (Act::Make(TxStep::LoadReport), NOTHING),
-    (Act::Report, Told::Yes),
+    (Act::Report, Expected::True),
     (Act::Make(TxStep::LoadReport), REPORTED),
-    (Act::Make(TxStep::Clean), Told::Note(Some(Note::Buffer(31)))),
-    (Act::Meet, Told::Yes),
+    (
+        Act::Make(TxStep::Clean),
+        Expected::Note(Some(Note::Buffer(31))),
+    ),
+    (Act::Meet, Expected::True),
 ];
 
 /// The first of two frames asks for no report: the second's covers it.
 const TWO: &[Row] = &[
-    (Act::Enable, Told::Yes),
-    (Act::Post(false), Told::Note(Some(Note::Place(0)))),
-    (Act::Post(true), Told::Note(Some(Note::Place(0)))),
-    (Act::Make(TxStep::Publish), Told::Note(Some(Note::Tail(0)))),
-    (Act::Make(TxStep::Look), Told::Note(Some(Note::Ready(2)))),
+    (Act::Enable, Expected::True),
+    (Act::Post(false), Expected::Note(Some(Note::Place(0)))),
+    (Act::Post(true), Expected::Note(Some(Note::Place(0)))),
+    (
+        Act::Make(TxStep::Publish),
+        Expected::Note(Some(Note::Tail(0))),
+    ),
+    (
+        Act::Make(TxStep::Look),
+        Expected::Note(Some(Note::Ready(2))),
+    ),
     (Act::Make(TxStep::Fetch), sending!(31, false)),
-    (Act::Make(TxStep::Send), Told::Note(Some(Note::Head(0)))),
+    (Act::Make(TxStep::Send), Expected::Note(Some(Note::Head(0)))),
     (Act::Make(TxStep::Report), NOTHING),
     (Act::Make(TxStep::Fetch), sending!(30, true)),
-    (Act::Make(TxStep::Send), Told::Note(Some(Note::Head(0)))),
+    (Act::Make(TxStep::Send), Expected::Note(Some(Note::Head(0)))),
     (Act::Make(TxStep::Clean), NOTHING),
-    (Act::Report, Told::Yes),
+    (Act::Report, Expected::True),
     (Act::Make(TxStep::LoadReport), REPORTED),
     (Act::Make(TxStep::LoadReport), NOTHING),
-    (Act::Make(TxStep::Clean), Told::Note(Some(Note::Buffer(31)))),
-    (Act::Make(TxStep::Clean), Told::Note(Some(Note::Buffer(30)))),
+    (
+        Act::Make(TxStep::Clean),
+        Expected::Note(Some(Note::Buffer(31))),
+    ),
+    (
+        Act::Make(TxStep::Clean),
+        Expected::Note(Some(Note::Buffer(30))),
+    ),
     (Act::Make(TxStep::Clean), NOTHING),
-    (Act::Meet, Told::Yes),
+    (Act::Meet, Expected::True),
 ];
 
 #[test]
@@ -165,37 +190,43 @@ fn reports(rt: HostRuntime) {
 }
 
 /// A frame is posted without RS.
-const POSTED: Row = (Act::Post(false), Told::Note(Some(Note::Place(0))));
+const POSTED: Row = (Act::Post(false), Expected::Note(Some(Note::Place(0))));
 
 /// Three frames are posted without RS, and the first is sent: two are left, three buffers come back, and nothing else
 /// can be done.
 const TWO_LEFT: &[Row] = &[
-    (Act::Enable, Told::Yes),
+    (Act::Enable, Expected::True),
     POSTED,
     POSTED,
     POSTED,
-    (Act::Make(TxStep::Publish), Told::Note(Some(Note::Tail(0)))),
-    (Act::Make(TxStep::Look), Told::Note(Some(Note::Ready(3)))),
+    (
+        Act::Make(TxStep::Publish),
+        Expected::Note(Some(Note::Tail(0))),
+    ),
+    (
+        Act::Make(TxStep::Look),
+        Expected::Note(Some(Note::Ready(3))),
+    ),
     (Act::Make(TxStep::Fetch), sending!(31, false)),
-    (Act::Make(TxStep::Send), Told::Note(Some(Note::Head(0)))),
-    (Act::Disable, Told::Yes),
-    (Act::Left, Told::Counts(Some((2, 2)))),
+    (Act::Make(TxStep::Send), Expected::Note(Some(Note::Head(0)))),
+    (Act::Disable, Expected::True),
+    (Act::Left, Expected::Counts(Some((2, 2)))),
     (Act::Make(TxStep::LoadReport), NOTHING),
     (Act::Make(TxStep::Look), NOTHING),
     (
         Act::Make(TxStep::Reclaim),
-        Told::Note(Some(Note::Buffer(31))),
+        Expected::Note(Some(Note::Buffer(31))),
     ),
     (
         Act::Make(TxStep::Reclaim),
-        Told::Note(Some(Note::Buffer(30))),
+        Expected::Note(Some(Note::Buffer(30))),
     ),
     (
         Act::Make(TxStep::Reclaim),
-        Told::Note(Some(Note::Buffer(29))),
+        Expected::Note(Some(Note::Buffer(29))),
     ),
     (Act::Make(TxStep::Reclaim), NOTHING),
-    (Act::Meet, Told::Yes),
+    (Act::Meet, Expected::True),
 ];
 
 #[test]
@@ -249,7 +280,7 @@ const SHORT: &[Row] = &[(
         len: 452,
         last: 0x0271_0000_2b30_01c4,
     }),
-    Told::Yes,
+    Expected::True,
 )];
 
 const LONG: &[Row] = &[(
@@ -260,7 +291,7 @@ const LONG: &[Row] = &[(
         len: 664,
         last: 0x0ea6_0000_2b30_0298,
     }),
-    Told::Yes,
+    Expected::True,
 )];
 
 #[test]

@@ -1,0 +1,24 @@
+use Rattle.std.proofs.Common.{rules, map, sym, subst}
+use Rattle.std.proofs.lemmas.Bool.{false≢true}
+use Rattle.buffer_pool.specs.Packed.{bytes_of}
+use Rattle.flows.specs.declared.flow_drivers.FlowDrivers.{FlowDrivers}
+use Rattle.flows.specs.Driven.{IsEquipped, driving_of}
+use Rattle.flows.proofs.FlowDrivers.{equipped-still}
+use Rattle.flows.proofs.Closing.{positive, relayed-as}
+use Rattle.flows.proofs.flow_drivers.FlowDrivers.forward.Goals as goal
+
+pub returns-clause-went : goal.returns-clause-went
+returns-clause-went g c =
+    let k = c.args.flow_spec.now in let old = c.relay.new.self in let q = c.close-2 in let new = q.new.self in let waiting = map bytes_of old.packets.items in record {
+      equipped = subst (λ (l : FlowDrivers). IsEquipped k l.pass (driving_of l)) (sym q.ensures.rest) (equipped-still k old.pass (driving_of old) new.rx new.tx c.relay.ensures.equipped q.ensures.rx q.ensures.tx);
+      at = record {
+        rx_stands = q.ensures.stopping.0;
+        tx_stands = q.ensures.stopping.1;
+        has_ended = record {
+          waiting = waiting;
+          relayed = relayed-as k.retries old.rx.end new.rx.end old.tx.end new.tx.end c.relay.new.counts waiting q.ensures.rx.taken q.ensures.tx.posted c.relay.ensures.relayed;
+          ended_as = positive k.turns (search rules);
+        };
+      };
+      given_back = λ e. absurd (false≢true e);
+    }

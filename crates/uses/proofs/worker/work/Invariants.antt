@@ -1,6 +1,0 @@
--- The pass is the pool's.
-use Rattle.pool.specs.Owned.{IsOf}
-use Rattle.uses.proofs.worker.work.Given as goal
-
-abbrev pub invariant-loop : goal.invariant-loop
-invariant-loop g l = IsOf l.pool l.pass
