@@ -46,6 +46,10 @@ pub record HasLawfulWork (c : Config) : Type 0 where
 abbrev pub IsLawful : Config → Type 0
 IsLawful c = HasLawfulQueues c × HasLawfulBuffers c × HasLawfulWork c
 
+-- Each of these frames has a queue that exists.
+abbrev pub HasQueues : Config → List Frame → Type 0
+HasQueues c frames = All (λ f. f.queue < c.pairs) frames
+
 -- The configuration is lawful, and each frame of the script has a queue that exists.
 abbrev pub FitsIn : List Frame → Config → Type 0
-FitsIn script c = IsLawful c × All (λ f. f.queue < c.pairs) script
+FitsIn script c = IsLawful c × HasQueues c script

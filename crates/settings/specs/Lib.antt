@@ -1,2 +1,3 @@
 pub mod Configs
+pub mod ConfigFaults
 pub mod Thresholds

@@ -1,16 +1,12 @@
 //! The configuration of a forwarder.
-ghost use Rattle.std.specs.Prelude.{◌≡◌, ◌<◌, ◌↔◌, All, IsTrue, IsOk, IfErr};
+ghost use Rattle.std.specs.Prelude.{◌≡◌, ◌↔◌, IsTrue, IsOk, IfErr};
 ghost use Rattle.refusals.specs.declared.errors.ForwardError.TheVariants.{Config as ConfigRefused};
-ghost use Rattle.settings.specs.Configs.{IsLawful, HasLawfulQueues, HasLawfulBuffers, HasLawfulWork, FitsIn};
+ghost use Rattle.settings.specs.Configs.{IsLawful, FitsIn};
 
-use limits::{
-    FEWEST_BUFFERS, MOST_BATCH, MOST_BUFFERS, MOST_PAIRS, MOST_RS_EVERY, is_fill_size,
-    is_ring_length,
-};
 use refusals::ForwardError;
 use ring_model::Completion;
 use std::fmt;
-use wire_script::{Script, WireFrame};
+use wire_script::Script;
 
 /// The least number of buffers that a flow may hold.
 pub const LEAST_SHARE: u32 = 16;
@@ -95,55 +91,18 @@ impl Config {
     pub fn is_lawful(&self) -> bool
         ensures { IsTrue result ↔ IsLawful self.now }
     {
-        self.has_lawful_queues() && self.has_lawful_buffers() && self.has_lawful_work()
+        self.number_fault().is_none()
     }
 
-    fn has_lawful_queues(&self) -> bool
-        ensures { IsTrue result ↔ HasLawfulQueues self.now }
-    {
-        1 <= self.pairs && self.pairs as usize <= MOST_PAIRS && is_ring_length(self.ring as usize)
-    }
-
-    fn has_lawful_buffers(&self) -> bool
-        requires { HasLawfulQueues self.now }
-        ensures { IsTrue result ↔ HasLawfulBuffers self.now }
-    {
-        FEWEST_BUFFERS <= self.buffers
-            && self.buffers <= MOST_BUFFERS
-            && LEAST_SHARE <= self.buffers / (2 * self.pairs)
-            && is_fill_size(self.bsize as usize)
-    }
-
-    fn has_lawful_work(&self) -> bool
-        requires { HasLawfulQueues self.now }
-        ensures { IsTrue result ↔ HasLawfulWork self.now }
-    {
-        1 <= self.batch
-            && self.batch as usize <= MOST_BATCH
-            && 1 <= self.rs_every
-            && self.rs_every <= u32::from(MOST_RS_EVERY)
-            && 1 <= self.workers
-            && self.workers <= 2 * self.pairs
-    }
-
-    /// Whether the configuration has the queue of each of these frames.
-    fn has_queues(&self, frames: &[WireFrame]) -> bool
-        ensures { IsTrue result ↔ All (λ f. f.queue < self.now.pairs) frames.now }
-    {
-        frames
-            .iter()
-            .all(|frame| u32::from(frame.queue()) < self.pairs)
-    }
-
-    /// Returns `Config` if this is not lawful, or the script names a queue beyond its pairs.
+    /// Returns `Config` if this is not lawful, or the script names a queue beyond its pairs. [`fault`](Config::fault)
+    /// says which limit is violated.
     pub fn check(&self, script: &Script) -> Result<(), ForwardError>
         ensures accepted { IsOk result ↔ FitsIn script.now self.now }
         ensures refused { IfErr result (λ e. e ≡ ConfigRefused) }
     {
-        if self.is_lawful() && self.has_queues(script.frames()) {
-            Ok(())
-        } else {
-            Err(ForwardError::Config)
+        match self.fault(script) {
+            None => Ok(()),
+            Some(_) => Err(ForwardError::Config),
         }
     }
 }
