@@ -1,5 +1,6 @@
 -- What is held, by weights.
-use Rattle.std.proofs.Common.{◌≡◌, ◌∙◌, ℕ, ◌+◌, ◌≤◌, List, [], ◌∷◌, ◌++◌, Contains, ap, refl, arith}
+use Rattle.std.proofs.Common.{◌≡◌, ◌∙◌, ℕ, ◌+◌, ◌≤◌, List, [], ◌∷◌, ◌++◌, Contains, length, length-append, reverse, ap, refl, arith}
+use Rattle.std.proofs.lemmas.List.{length-reverse}
 use Rattle.buffer_pool.specs.Buffer.{Buffer}
 use Rattle.pool.specs.Hands.{total, without}
 use Rattle.pool.proofs.Totals.{total-append, total-without}
@@ -67,3 +68,19 @@ drops-one held held' stash stash' ps qs p e k = λ w.
 -- what is at hand is held with all else
 pub holds-part : (held has all : List ℕ) → HoldsJust held all → ((h : ℕ → ℕ) → total h has ≤ total h all) → Holds held has
 holds-part held has all just part = λ h. (let a = just h in let b = part h in omega (arith, a, b))
+
+-- how many are held, by weights of 1
+ones : (xs : List ℕ) → total (λ k. 1) xs ≡ length xs
+ones [] = refl
+ones (x ∷ xs) = let e = ones xs in let more : 1 + total (λ k. 1) xs ≡ length (x ∷ xs) = omega (arith, e) in more
+
+-- one less is held after one was given
+pub gave-less : (held has held' has' : List ℕ) (n : ℕ) (front back : List ℕ) → has ≡ front ++ n ∷ back → has' ≡ front ++ back → Keeps held has held' has' → length held' + 1 ≡ length held
+gave-less held has held' has' n front back e e' k =
+    let one = k (λ i. 1) in let a = ones held in let b = ones held' in
+    let was = ap (total (λ i. 1)) e ∙ total-append (λ i. 1) front (n ∷ back) in let is = ap (total (λ i. 1)) e' ∙ total-append (λ i. 1) front back in
+    omega (arith, one, a, b, was, is)
+
+-- and as many more as were taken
+pub took-more : (held held' ns : List ℕ) (n : ℕ) → length ns ≡ n → held' ≡ reverse ns ++ held → length held' ≡ length held + n
+took-more held held' ns n many is = let split = ap length is ∙ length-append (reverse ns) held in let same = length-reverse ns in omega (arith, split, same, many)

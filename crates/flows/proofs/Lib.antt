@@ -1,6 +1,7 @@
 pub mod Sent
 pub mod Dealing
 pub mod Choosing
+pub mod Pieces
 pub mod Meets
 pub mod Offers
 pub mod Holds

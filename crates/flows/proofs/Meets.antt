@@ -1,6 +1,6 @@
 -- What follows for a flow once both its rings' ends met.
 use Rattle.std.proofs.Common.{◌≡◌, ◌∙◌, ℕ, ◌+◌, ◌≤◌, Bool, true, false, List, [], length, map, take, ap, sym, refl, subst, arith, if◌then◌else◌, ⊎_elim, ◌⊎◌}
-use Rattle.std.specs.Prelude.{◌&&◌, Option, Some}
+use Rattle.std.specs.Prelude.{◌&&◌, Option, Some, sum_by}
 use Rattle.std.proofs.lemmas.List.{length-map, take-append-drop, take_all}
 use Rattle.atomic_table.specs.Seated.{TableId}
 use Rattle.ring_model.specs.shared.Frames.{Bytes, frames}
@@ -25,7 +25,7 @@ use Rattle.forwarding.specs.declared.report.Ended.TheVariants.{Drained, Cut}
 use Rattle.forwarding.specs.declared.report.FlowReport.{FlowReport}
 use Rattle.flows.specs.declared.concluding.DriverDone.{DriverDone}
 use Rattle.flows.specs.declared.concluding.ControllerDone.{ControllerDone}
-use Rattle.flows.specs.Outputs.{Chosen, fitting, oversized}
+use Rattle.flows.specs.Outputs.{AreCut, Chosen, fitting, oversized}
 use Rattle.flows.specs.Counting.{most_exact}
 use Rattle.flows.specs.Driven.{AreExact, AreFull, HasDriven, HasDrained, EndedAs, taken_frames, posted_frames}
 use Rattle.flows.specs.Keys.{DriverKey, ControllerKey, Plan, plan_of}
@@ -112,7 +112,7 @@ module _ (dk : DriverKey) (ck : ControllerKey) (from to : TableId) (d : DriverDo
   tx_left = told (transmitted.told_left d.tx) d.unsent (length (transmitted.sent_now d.tx s.tx)) (length (transmit.posted d.tx)) driven.unsent left_tx
 
   abbrev pub report : FlowReport
-  report = record { offered = s.tally.offered; stored = s.tally.stored; dropped = s.tally.dropped; oversize = s.tally.oversize; taken = d.counts.taken; posted = d.counts.posted; tx_dropped = d.counts.tx_dropped; wire = s.wire; left = left; ended = d.ended }
+  report = record { offered = s.tally.offered; stored = s.tally.stored; stored_bytes = s.stored_bytes; dropped = s.tally.dropped; oversize = s.tally.oversize; taken = d.counts.taken; posted = d.counts.posted; tx_dropped = d.counts.tx_dropped; wire = s.wire; left = left; ended = d.ended }
 
   module _ (is : d.ended ≡ Drained) where
     has : HasDrained d.rx d.tx driven.waiting
@@ -172,7 +172,9 @@ module _ (dk : DriverKey) (ck : ControllerKey) (from to : TableId) (d : DriverDo
     were_offered = subst (λ (l : List (Segment Bytes)). Chosen (frames piece_of l) (take s.tally.offered ck.input.frames)) (sym stored_is)
         (subst (λ (k : ℕ). Chosen stored_frames (take k ck.input.frames)) (sym served.offered) served.chosen);
     were_taken = relayed;
+    are_cut = subst (AreCut ck.input.fill) (sym stored_is) served.are_cut;
     stored = served.stored ∙ ap (λ (l : List (Segment Bytes)). length (frames piece_of l)) (sym stored_is);
+    stored_bytes = served.bytes_are ∙ ap (λ (l : List (Segment Bytes)). sum_by length (frames piece_of l)) (sym stored_is);
     taken = exact.taken;
     posted = exact.posted;
     wire = served.wire ∙ ap (frames carried) (sym sent_is);

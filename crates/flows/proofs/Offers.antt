@@ -17,13 +17,14 @@ use Rattle.controller.specs.declared.offer.Offer.{Offer}
 use Rattle.controller.specs.declared.offer.Offer.TheVariants.{Stored, Dropped, Oversize, Held, Off}
 use Rattle.controller.specs.Receiving.{Receiving, needed, Offered, WasStored, WasDropped, WasOversize, WasHeld, WasOff, frames_by}
 use Rattle.controller.specs.Tallying.{exact, most_count}
-use Rattle.flows.specs.Outputs.{Chosen, fitting, oversized}
+use Rattle.flows.specs.Outputs.{AreCut, Chosen, fitting, oversized}
 use Rattle.wire_script.specs.Frame.{Frame}
 use Rattle.flows.specs.Keys.{Input, bytes_at, frames_at}
 use Rattle.flows.specs.declared.queue_phase.QueuePhase.{QueuePhase}
 use Rattle.flows.specs.declared.queue_phase.QueuePhase.TheVariants.{Waiting, Serving}
-use Rattle.flows.specs.Served.{OfferedSoFar, StandsAs, IsRxSource, rx_source, decides}
+use Rattle.flows.specs.Served.{OfferedSoFar, StandsAs, IsRxSource, rx_source, bytes_by, decides}
 use Rattle.flows.proofs.Choosing.{chosen-both, chosen-of-more}
+use Rattle.flows.proofs.Pieces.{offers-bytes, offers-cut, offers-few, undecided-bytes}
 
 take-one : {X : Type 0} (xs : List X) (i : ℕ) (d : X) → i < length xs → take (suc i) xs ≡ take i xs ++ get_or xs i d ∷ []
 take-one [] i d low = absurd (omega (arith, low))
@@ -187,7 +188,7 @@ same-config c new f Off w = (ap (λ (r : Receiving). r.bsize) w.same, ap (λ (r 
 waiting≢serving : Waiting ≡ Serving → ⊥
 waiting≢serving e = cc e
 
-module _ (from : TableId) (fs : List Bytes) (c new : Receiving) (next : ℕ) (s : QueuePhase) (f : Bytes) (offer : Offer) (was : IsRxSource (rx_source from fs c next s)) (serves : s ≡ Serving) (here : next < length fs)
+module _ (from : TableId) (fs : List Bytes) (c new : Receiving) (next bytes : ℕ) (s : QueuePhase) (f : Bytes) (offer : Offer) (was : IsRxSource (rx_source from fs c next bytes s)) (serves : s ≡ Serving) (here : next < length fs)
     (f_is : get_or fs next f ≡ f) (own : new.end.table ≡ from) (ready : frames piece_of (stored new.end) ≡ frames piece_of (stored c.end) ++ frames_by (Ok offer) f) (w : Offered c f (Ok offer) new)
     (state : controller_state new.end ≡ controller_state c.end) (quiet : is_quiet new.end ≡ is_quiet c.end) where
   abbrev input : Receiving → Input
@@ -205,17 +206,29 @@ module _ (from : TableId) (fs : List Bytes) (c new : Receiving) (next : ℕ) (s 
   table : new.end.table ≡ c.end.table
   table = own ∙ sym was.so_far.own
 
-  pub decided-on : decides offer ≡ true → IsRxSource (rx_source from fs new (next + 1) s)
-  decided-on is = record {
+  cut : AreCut new.bsize (stored new.end)
+  cut = subst (λ (b : ℕ). AreCut b (stored new.end)) (sym (same-config c new f offer w).0) (offers-cut c new f offer w ready was.are_cut)
+
+  more-bytes : decides offer ≡ true → IsRxSource (rx_source from fs new (next + 1) (bytes + bytes_by offer (length f)) s)
+  more-bytes is = record {
     so_far = subst (λ (i : Input). OfferedSoFar i new (next + 1)) same_input (offers-on (input c) c new f next offer was.so_far here f_is table ready w is);
+    are_cut = cut;
+    stored_bytes = offers-bytes (frames piece_of (stored c.end)) (frames piece_of (stored new.end)) f offer bytes ready was.stored_bytes;
+    few_bytes = offers-few c new f offer bytes next w was.few_bytes;
     stands = stands;
     unserved = λ e. absurd (waiting≢serving (sym e ∙ serves));
     finished = λ is. absurd (loud is);
   }
 
-  pub undecided : decides offer ≡ false → IsRxSource (rx_source from fs new next s)
+  pub decided-on : (added : ℕ) → added ≡ bytes_by offer (length f) → decides offer ≡ true → IsRxSource (rx_source from fs new (next + 1) (bytes + added) s)
+  decided-on added added_is is = subst (λ (k : ℕ). IsRxSource (rx_source from fs new (next + 1) (bytes + k) s)) (sym added_is) (more-bytes is)
+
+  pub undecided : decides offer ≡ false → IsRxSource (rx_source from fs new next bytes s)
   undecided is = record {
     so_far = subst (λ (i : Input). OfferedSoFar i new next) same_input (offers-none (input c) c new f next offer was.so_far here f_is table ready w is);
+    are_cut = cut;
+    stored_bytes = undecided-bytes (frames piece_of (stored c.end)) (frames piece_of (stored new.end)) f offer bytes ready was.stored_bytes is;
+    few_bytes = was.few_bytes;
     stands = stands;
     unserved = λ e. absurd (waiting≢serving (sym e ∙ serves));
     finished = λ is. absurd (loud is);

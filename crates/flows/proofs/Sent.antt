@@ -20,6 +20,7 @@ use Rattle.controller.proofs.tally.Tally.TheSendSync as Tally
 use Rattle.controller.proofs.wire.Wire.TheSendSync as Wire
 use Rattle.flows.proofs.queue_phase.QueuePhase.TheSendSync as QueuePhase
 use Rattle.flows.proofs.counts.Counts.TheSendSync as Counts
+use Rattle.flows.proofs.flow_drivers.PoolPart.TheSendSync as PoolPart
 use Rattle.flows.proofs.phase.Phase.TheSendSync as Phase
 use Rattle.shared_ring.proofs.ends.ControllerPlaces.TheSendSync as ControllerPlaces
 use Rattle.shared_ring.proofs.ends.DriverPlaces.TheSendSync as DriverPlaces
@@ -56,7 +57,7 @@ flow_drivers : IsSend (FlowDrivers.the_field).row
 flow_drivers = search (tables, Seat.the_send, Completion.the_field_send, DriverPlaces.the_field_send) depth 60 fits 20000
 
 flow_spec : (l : _) → IsSend (FlowSpec.the_row l)
-flow_spec l = search (sendable, rx_ring, tx_ring, the_pool) depth 60 fits 20000
+flow_spec l = search (sendable, rx_ring, tx_ring, the_pool, PoolPart.the_field_send) depth 60 fits 20000
 
 pub controller_flow : (l : _) → IsSend (ControllerFlow.the_row l)
 controller_flow l = search (sendable, rx_source, tx_sink) depth 60 fits 20000

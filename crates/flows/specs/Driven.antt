@@ -173,18 +173,21 @@ abbrev pub is_over : Phase → Bool
 is_over (Over left) = true
 is_over _ = false
 
--- The driver's side: its key, its pass, its drivers and their buffers, its counts, and its phase.
+-- The driver's side: its key, its pass, its drivers and their buffers, the number of buffers that it may still take, its
+-- counts, and its phase.
 pub record Relaying : Type 0 where
   pub key : DriverKey
   pub pass : Passed
   pub driving : Driving
+  pub short : ℕ
   pub counts : Counts
   pub phase : Phase
 
 abbrev pub relaying : DriverKey → FlowDrivers → Counts → Phase → Relaying
-relaying k l c phase = record { key = k; pass = l.pass; driving = driving_of l; counts = c; phase = phase }
+relaying k l c phase = record { key = k; pass = l.pass; driving = driving_of l; short = l.short; counts = c; phase = phase }
 
 pub record IsRelaying (r : Relaying) : Type 0 where
   pub equipped : IsEquipped r.key r.pass r.driving
   pub at : IsAt r.key r.driving r.counts r.phase
+  pub few : length r.pass.hand.held + r.short ≤ r.key.most
   pub given_back : is_over r.phase ≡ true → r.pass.hand.held ≡ []

@@ -5,14 +5,15 @@ use Rattle.pool.specs.Owned.{Pooled}
 use Rattle.ring_model.specs.shared.Frames.{Bytes}
 use Rattle.wire_script.specs.Frame.{Frame}
 
--- The driver's side: the flow's number, its two rings, its pool and its pass's share of it, whether packets that could
--- not be posted are kept, and after how many turns it is cut (0: never).
+-- The driver's side: the flow's number, its two rings, its pool and its pass's share of it, the greatest number of buffers
+-- that it holds, whether packets that could not be posted are kept, and after how many turns it is cut (0: never).
 pub record DriverKey : Type 0 where
   pub number : ℕ
   pub from : TableId
   pub to : TableId
   pub pool : Pooled
   pub share : ℕ
+  pub most : ℕ
   pub retries : Bool
   pub turns : ℕ
 

@@ -1,5 +1,5 @@
 -- The meaning of a flow's report.
-use Rattle.std.specs.Prelude.{◌≡◌, ℕ, ◌+◌, ◌≤◌, true, false, length, map, take}
+use Rattle.std.specs.Prelude.{◌≡◌, ℕ, ◌+◌, ◌≤◌, true, false, length, map, sum_by, take}
 use Rattle.ring_model.specs.receive.Lawful.{IsLawfulRxLedger}
 use Rattle.ring_model.specs.receive.Ring.{RxLedger}
 use Rattle.ring_model.specs.shared.Frames.{Bytes, frames}
@@ -9,13 +9,14 @@ use Rattle.ring_model.specs.transmit.Ring.{TxLedger, carried}
 use Rattle.forwarding.specs.declared.report.Ended.TheVariants.{Drained}
 use Rattle.forwarding.specs.declared.report.FlowReport.{FlowReport}
 use Rattle.forwarding.specs.Touching.{touch}
-use Rattle.flows.specs.Outputs.{Chosen, IsLawfulOutput, IsFullOutput, oversized}
+use Rattle.flows.specs.Outputs.{AreCut, Chosen, IsLawfulOutput, IsFullOutput, oversized}
 use Rattle.flows.specs.Keys.{Plan}
 
 -- There are lawful ledgers of the flow's two queues. The stored frames are among the first `offered` frames of the
--- flow, and the posted ones are touched copies of taken ones, both in order. The counts are those of their frames, the
--- wire has the sent frames, and `left` is the number of segments left in both together. If nothing was dropped for lack
--- of room on the transmit ring, the wire of a drained flow has every stored frame.
+-- flow, cut into the buffers that the plan says, and the posted ones are touched copies of taken ones, both in order. The
+-- counts are those of their frames, the wire has the sent frames, and `left` is the number of segments left in both
+-- together. If nothing was dropped for lack of room on the transmit ring, the wire of a drained flow has every stored
+-- frame.
 pub record AreLedgers (p : Plan) (r : FlowReport) : Type 0 where
   pub received : RxLedger Bytes
   pub sent : TxLedger Bytes
@@ -23,7 +24,9 @@ pub record AreLedgers (p : Plan) (r : FlowReport) : Type 0 where
   pub lawful_sent : IsLawfulTxLedger Bytes p.size sent
   pub were_offered : Chosen (frames piece_of received.completed) (take r.offered p.frames)
   pub were_taken : Chosen (frames carried sent.posted) (map touch (frames piece_of received.reaped))
+  pub are_cut : AreCut p.fill received.completed
   pub stored : r.stored ≡ length (frames piece_of received.completed)
+  pub stored_bytes : r.stored_bytes ≡ sum_by length (frames piece_of received.completed)
   pub taken : r.taken ≡ length (frames piece_of received.reaped)
   pub posted : r.posted ≡ length (frames carried sent.posted)
   pub wire : r.wire ≡ frames carried sent.completed

@@ -1,7 +1,7 @@
 -- The knowledge of the controller's side of a flow.
-use Rattle.std.specs.Prelude.{◌≡◌, ℕ, ◌≤◌, Bool, false, true, List, [], length, take}
+use Rattle.std.specs.Prelude.{◌≡◌, ℕ, ◌*◌, ◌≤◌, Bool, false, true, List, [], length, sum_by, take}
 use Rattle.atomic_table.specs.Seated.{TableId}
-use Rattle.limits.specs.declared.profile.TheConstants.{MOST_SCRIPT_FRAMES}
+use Rattle.limits.specs.declared.profile.TheConstants.{MOST_FRAME, MOST_SCRIPT_FRAMES}
 use Rattle.ring_model.specs.shared.Frames.{Bytes, frames}
 use Rattle.ring_model.specs.shared.Handshakes.{is_serving}
 use Rattle.ring_model.specs.shared.Segments.{piece_of}
@@ -13,7 +13,7 @@ use Rattle.controller.specs.declared.offer.Offer.TheVariants.{Off, Oversize, Sto
 use Rattle.controller.specs.Receiving.{Receiving}
 use Rattle.controller.specs.declared.tally.Tally.{Tally}
 use Rattle.controller.specs.Tallying.{AddsUp}
-use Rattle.flows.specs.Outputs.{Chosen, fitting, oversized}
+use Rattle.flows.specs.Outputs.{AreCut, Chosen, fitting, oversized}
 use Rattle.flows.specs.Keys.{Input, ControllerKey}
 use Rattle.flows.specs.declared.queue_phase.QueuePhase.{QueuePhase}
 use Rattle.flows.specs.declared.queue_phase.QueuePhase.TheVariants.{Waiting, Serving, Ended}
@@ -42,6 +42,14 @@ decides Oversize = true
 decides Held = false
 decides Off = false
 
+-- The bytes that the offer of a frame of this length adds to those stored.
+abbrev pub bytes_by : Offer → ℕ → ℕ
+bytes_by Stored len = len
+bytes_by Dropped len = 0
+bytes_by Oversize len = 0
+bytes_by Held len = 0
+bytes_by Off len = 0
+
 -- Whether the end serves its queue now, in each phase of the queue.
 abbrev pub StandsAs : QueuePhase → Bool → Type 0
 StandsAs Waiting serving = serving ≡ false
@@ -56,15 +64,16 @@ after Serving true = Serving
 after Serving false = Ended
 after Ended serving = Ended
 
--- The receive queue of a flow, as its controller serves it.
+-- The receive queue of a flow, as its controller serves it, and the number of bytes of its stored frames.
 pub record RxSource : Type 0 where
   pub input : Input
   pub controller : Receiving
   pub next : ℕ
+  pub stored_bytes : ℕ
   pub queue_phase : QueuePhase
 
-abbrev pub rx_source : TableId → List Bytes → Receiving → ℕ → QueuePhase → RxSource
-rx_source from frames_in controller next queue_phase = record { input = record { from = from; frames = frames_in; fill = controller.bsize; drops = controller.drop_en }; controller = controller; next = next; queue_phase = queue_phase }
+abbrev pub rx_source : TableId → List Bytes → Receiving → ℕ → ℕ → QueuePhase → RxSource
+rx_source from frames_in controller next stored_bytes queue_phase = record { input = record { from = from; frames = frames_in; fill = controller.bsize; drops = controller.drop_en }; controller = controller; next = next; stored_bytes = stored_bytes; queue_phase = queue_phase }
 
 -- Nothing was done yet.
 pub record IsUnserved (o : RxSource) : Type 0 where
@@ -72,9 +81,13 @@ pub record IsUnserved (o : RxSource) : Type 0 where
   pub stored : receive.stored o.controller.end ≡ []
   pub loud : receive.is_quiet o.controller.end ≡ false
 
--- Quiet was said only after all frames were decided.
+-- The stored segments are those of the stored frames, whose bytes are counted. Quiet was said only after all frames were
+-- decided.
 pub record IsRxSource (o : RxSource) : Type 0 where
   pub so_far : OfferedSoFar o.input o.controller o.next
+  pub are_cut : AreCut o.input.fill (receive.stored o.controller.end)
+  pub stored_bytes : o.stored_bytes ≡ sum_by length (frames piece_of (receive.stored o.controller.end))
+  pub few_bytes : o.stored_bytes ≤ MOST_FRAME * o.next
   pub stands : StandsAs o.queue_phase (is_serving (receive.controller_state o.controller.end))
   pub unserved : o.queue_phase ≡ Waiting → IsUnserved o
   pub finished : receive.is_quiet o.controller.end ≡ true → o.next ≡ length o.input.frames
@@ -97,7 +110,7 @@ pub record IsTxSink (w : TxSink) : Type 0 where
   pub wire : w.wire ≡ frames carried (transmit.sent w.controller)
 
 -- What is known of the input whenever the controller's end is returned.
-pub record HasOffered (i : Input) (end : receive.ControllerSide) (tally : Tally) : Type 0 where
+pub record HasOffered (i : Input) (end : receive.ControllerSide) (tally : Tally) (stored_bytes : ℕ) : Type 0 where
   pub own : end.table ≡ i.from
   pub few_frames : length i.frames ≤ MOST_SCRIPT_FRAMES
   pub next : ℕ
@@ -109,11 +122,13 @@ pub record HasOffered (i : Input) (end : receive.ControllerSide) (tally : Tally)
   pub full : i.drops ≡ false → frames piece_of (receive.stored end) ≡ fitting i.from.slots i.fill (take next i.frames)
   pub none_dropped : i.drops ≡ false → tally.dropped ≡ 0
   pub oversize : tally.oversize ≡ length (oversized i.from.slots i.fill (take next i.frames))
+  pub are_cut : AreCut i.fill (receive.stored end)
+  pub bytes_are : stored_bytes ≡ sum_by length (frames piece_of (receive.stored end))
   pub finished : receive.is_quiet end ≡ true → next ≡ length i.frames
 
 -- Both halves together.
 pub record HasServed (k : ControllerKey) (s : ControllerDone) : Type 0 where
-  pub input : HasOffered k.input s.rx s.tally
+  pub input : HasOffered k.input s.rx s.tally s.stored_bytes
   pub open input use *
   pub sends : s.tx.table ≡ k.to
   pub wire : s.wire ≡ frames carried (transmit.sent s.tx)

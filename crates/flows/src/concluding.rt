@@ -38,6 +38,8 @@ pub struct ControllerDone {
     pub tx: TxControllerEnd,
     /// The outcomes of the offered frames.
     pub tally: Tally,
+    /// The bytes of the stored frames.
+    pub stored_bytes: u64,
     /// The frames that were sent.
     pub wire: Wire,
 }
@@ -70,6 +72,7 @@ pub fn conclude(
         rx: mut storing,
         tx: mut sending,
         tally,
+        stored_bytes,
         wire,
     } = controller;
     meet_rx(from, &mut rx, &mut storing);
@@ -77,6 +80,7 @@ pub fn conclude(
     FlowReport {
         offered: tally.offered,
         stored: tally.stored,
+        stored_bytes,
         dropped: tally.dropped,
         oversize: tally.oversize,
         taken: counts.taken,

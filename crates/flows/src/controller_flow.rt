@@ -95,12 +95,13 @@ impl<'a> ControllerFlow<'a> {
         ensures tally { result.tally ≡ self.entry.tally }
         ensures unheld { (receive.held result.rx ≡ None) × (transmit.held result.tx ≡ None) }
     {
-        let (rx, tally) = self.input.into_end();
+        let (rx, tally, stored_bytes) = self.input.into_end();
         let (tx, wire) = self.output.into_end();
         ControllerDone {
             rx,
             tx,
             tally,
+            stored_bytes,
             wire,
         }
     }

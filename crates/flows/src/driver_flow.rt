@@ -58,13 +58,13 @@ impl<'a> Model for DriverFlow<'a> {
 
     ghost Value = { Relaying };
 
-    ghost view = { λ f. record { key = f.flow_spec; pass = f.flow_drivers.pass; driving = driving_of f.flow_drivers; counts = f.counts; phase = f.phase } };
+    ghost view = { λ f. record { key = f.flow_spec; pass = f.flow_drivers.pass; driving = driving_of f.flow_drivers; short = f.flow_drivers.short; counts = f.counts; phase = f.phase } };
 
-    ghost invariant = { λ f. IsRelaying (record { key = f.flow_spec; pass = f.flow_drivers.pass; driving = driving_of f.flow_drivers; counts = f.counts; phase = f.phase }) };
+    ghost invariant = { λ f. IsRelaying (record { key = f.flow_spec; pass = f.flow_drivers.pass; driving = driving_of f.flow_drivers; short = f.flow_drivers.short; counts = f.counts; phase = f.phase }) };
 }
 
 impl<'a> DriverFlow<'a> {
-    /// Starts a flow: takes up to `most` buffers from the pool, posts as many as fit into the receive ring, and
+    /// Starts a flow: takes up to the spec's `most` buffers from the pool, posts as many as fit into the receive ring, and
     /// publishes them. The ends have made no step yet, their rings have the same length, and the pass has the spec's
     /// share and holds nothing. A batch has up to `batch` packets; each `rs_every`th frame and the last of each batch
     /// ask for a report.
@@ -73,7 +73,6 @@ impl<'a> DriverFlow<'a> {
         flow_spec: FlowSpec<'a>,
         ends: (RxDriverEnd, TxDriverEnd),
         mut pass: PoolPass,
-        most: usize,
         batch: usize,
         rs_every: u16,
     ) -> DriverFlow<'a>
@@ -87,6 +86,7 @@ impl<'a> DriverFlow<'a> {
         requires batch { (0 < batch) × (batch ≤ MOST_BATCH) }
         requires rs_every { (0 < rs_every) × (rs_every ≤ MOST_RS_EVERY) }
         ensures key { result.key ≡ flow_spec.entry }
+        ensures numbers { (result.driving.rx.batch ≡ batch) × (result.driving.tx.every ≡ rs_every) }
         ensures counts { result.counts ≡ none }
         ensures phase { result.phase ≡ EnablingTx }
         ensures published { published result.driving.rx.end ≡ length (posted result.driving.rx.end) }
@@ -100,7 +100,7 @@ impl<'a> DriverFlow<'a> {
             flow_spec.from,
             &mut end,
             &mut stash,
-            most,
+            flow_spec.part.most,
         );
         DriverFlow {
             flow_spec,

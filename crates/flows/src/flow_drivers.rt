@@ -1,5 +1,5 @@
 //! Both drivers of a flow, with the buffers that it holds.
-ghost use Rattle.std.specs.Prelude.{◌≡◌, ◌<◌, ◌≤◌, true, [], length, map, IfOk, IfErr};
+ghost use Rattle.std.specs.Prelude.{◌≡◌, ◌+◌, ◌<◌, ◌≤◌, true, [], length, map, IfOk, IfErr};
 ghost use Rattle.ring_model.specs.declared.states.DriverState.TheVariants.{Stopping};
 ghost use Rattle.buffer_pool.specs.Packed.{bytes_of};
 ghost use Rattle.limits.specs.declared.profile.TheConstants.{MOST_BATCH};
@@ -25,6 +25,15 @@ use std::marker::Model;
 use std::sync::Wait;
 use tx_ring::TxRing;
 
+/// The part of a pool that a flow may use.
+#[derive(Clone, Copy)]
+pub struct PoolPart {
+    /// The share of the pool that the flow's pass has.
+    pub share: u64,
+    /// The greatest number of buffers that the flow holds.
+    pub most: usize,
+}
+
 /// What a driver's side serves, and how.
 #[derive(Drop)]
 pub struct FlowSpec<'a> {
@@ -36,8 +45,8 @@ pub struct FlowSpec<'a> {
     pub to: &'a TxRing,
     /// The pool of the buffers.
     pub pool: &'a Pool,
-    /// The share of the pool that the flow's pass has.
-    pub share: u64,
+    /// The part of the pool that the flow may use.
+    pub part: PoolPart,
     /// Whether packets that find no room wait; otherwise they are dropped.
     pub retry: bool,
     /// The number of turns after which the flow is cut; 0 for never.
@@ -49,7 +58,7 @@ impl<'a> Model for FlowSpec<'a> {
 
     ghost Value = { DriverKey };
 
-    ghost view = { λ t. record { number = t.number; from = t.from.now; to = t.to.now; pool = t.pool.now; share = t.share; retries = t.retry; turns = t.turns } };
+    ghost view = { λ t. record { number = t.number; from = t.from.now; to = t.to.now; pool = t.pool.now; share = t.part.share; most = t.part.most; retries = t.retry; turns = t.turns } };
 }
 
 /// Both drivers, the stash, the packets that wait, and the pass that holds all their buffers.
@@ -82,6 +91,7 @@ impl FlowDrivers {
         ensures rx { is_on (receive.driver_state self.new.rx.end) ≡ true }
         ensures tx { is_on (transmit.driver_state self.new.tx.end) ≡ true }
         ensures relayed { Relayed flow_spec.now.retries self.new.rx.end self.new.tx.end counts.new (map bytes_of self.new.packets.items) }
+        ensures held { length self.new.pass.hand.held + self.new.short ≤ length self.old.pass.hand.held + self.old.short }
         ensures none_falls { NoneFalls (driven counts.old) (driven counts.new) }
         ensures quiet { receive.saw_quiet self.new.rx.end ≡ receive.saw_quiet self.old.rx.end }
         ensures drained { IfOk result (λ t. receive.saw_quiet self.old.rx.end ≡ true → t.taken ≡ 0 → length self.old.packets.items < MOST_BATCH → receive.is_drained self.new.rx.end ≡ true) }
@@ -122,6 +132,7 @@ impl FlowDrivers {
         ensures count { result ≡ length self.old.packets.items }
         ensures few { result ≤ MOST_BATCH }
         ensures none { self.new.packets.items ≡ [] }
+        ensures held { length self.new.pass.hand.held + self.new.short ≤ length self.old.pass.hand.held + self.old.short }
         ensures drivers { (self.new.rx ≡ self.old.rx) × (self.new.tx ≡ self.old.tx) }
     {
         drop_packets(
@@ -138,6 +149,7 @@ impl FlowDrivers {
     pub(crate) fn refill<R: Wait>(&mut self, rt: &R, flow_spec: &FlowSpec<'_>)
         requires { IsEquipped flow_spec.now self.old.pass (driving_of self.old) }
         ensures equipped { IsEquipped flow_spec.now self.new.pass (driving_of self.new) }
+        ensures held { length self.new.pass.hand.held + self.new.short ≤ length self.old.pass.hand.held + self.old.short }
         ensures rest { (self.new.rx ≡ self.old.rx) × (self.new.tx ≡ self.old.tx) × (self.new.packets ≡ self.old.packets) }
     {
         if self.short > 0 {

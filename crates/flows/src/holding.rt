@@ -1,5 +1,5 @@
 //! Moving a flow's buffers between its stash and the pool.
-ghost use Rattle.std.specs.Prelude.{◌≡◌, ◌≤◌, [], ◌++◌, length};
+ghost use Rattle.std.specs.Prelude.{◌≡◌, ◌+◌, ◌≤◌, [], ◌++◌, length};
 ghost use Rattle.limits.specs.declared.profile.TheConstants.{MOST_BATCH};
 ghost use Rattle.driver.specs.receive.Returns.{numbers_of};
 ghost use Rattle.driver.specs.transmit.Frames.{numbers_in};
@@ -29,6 +29,7 @@ pub(crate) fn drop_packets<R: Wait>(
     ensures count { result ≡ length packets.old.items }
     ensures few { result ≤ MOST_BATCH }
     ensures none { packets.new.items ≡ [] }
+    ensures held { length pass.new.hand.held + short.new ≤ length pass.old.hand.held + short.old }
     ensures kept { Keeps pass.old.hand.held (stash.old ++ numbers_in packets.old.items) pass.new.hand.held stash.new }
 {
     let count = packets.len();
@@ -51,6 +52,7 @@ fn drop_packet<R: Wait>(
     requires held { Holds pass.old.hand.held (stash.old ++ numbers_of packet) }
     ensures pool { IsOf pool.now pass.new }
     ensures share { pass.new.hand.share ≡ pass.old.hand.share }
+    ensures held { length pass.new.hand.held + short.new ≤ length pass.old.hand.held + short.old }
     ensures kept { Keeps pass.old.hand.held (stash.old ++ numbers_of packet) pass.new.hand.held stash.new }
 {
     while let Some(buf) = packet.pop_front() {
@@ -70,6 +72,7 @@ pub(crate) fn give_stash<R: Wait>(rt: &R, pool: &Pool, pass: &mut PoolPass, stas
     ensures pool { IsOf pool.now pass.new }
     ensures share { pass.new.hand.share ≡ pass.old.hand.share }
     ensures none { stash.new ≡ [] }
+    ensures fewer { length pass.new.hand.held ≤ length pass.old.hand.held }
     ensures kept { Keeps pass.old.hand.held stash.old pass.new.hand.held [] }
 {
     while let Some(buf) = stash.take() {

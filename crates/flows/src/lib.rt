@@ -30,7 +30,7 @@ pub use concluding::{ControllerDone, DriverDone, conclude};
 pub use controller_flow::ControllerFlow;
 pub use counts::Counts;
 pub use driver_flow::{DriverFlow, DriverParts};
-pub use flow_drivers::FlowSpec;
+pub use flow_drivers::{FlowSpec, PoolPart};
 pub use forwarding::{Ended, FlowReport};
 pub use phase::{Phase, Undelivered};
 pub use queue_phase::QueuePhase;

@@ -1,6 +1,6 @@
 //! The state of a controller that serves a queue.
-ghost use Rattle.std.specs.Prelude.{◌≡◌, true, false};
-ghost use Rattle.flows.specs.Served.{after, decides};
+ghost use Rattle.std.specs.Prelude.{◌≡◌, ◌≤◌, true, false};
+ghost use Rattle.flows.specs.Served.{after, bytes_by, decides};
 
 use controller::Offer;
 
@@ -46,4 +46,16 @@ pub(crate) fn is_decided(offer: Offer) -> bool
     ensures { result ≡ decides offer }
 {
     matches!(offer, Offer::Stored | Offer::Dropped | Offer::Oversize)
+}
+
+/// The bytes that this outcome of a frame of `len` bytes adds to those stored.
+#[inline]
+pub(crate) fn bytes_by(offer: Offer, len: usize) -> u64
+    ensures value { result ≡ bytes_by offer len }
+    ensures few { result ≤ len }
+{
+    match offer {
+        Offer::Stored => len as u64,
+        Offer::Dropped | Offer::Oversize | Offer::Held | Offer::Off => 0,
+    }
 }

@@ -11,7 +11,7 @@ ghost use Rattle.flows.specs.Counting.{offered};
 ghost use Rattle.flows.specs.Keys.{frames_at};
 ghost use Rattle.flows.specs.Served.{HasOffered};
 
-use crate::queue_phase::{QueuePhase, is_decided};
+use crate::queue_phase::{QueuePhase, bytes_by, is_decided};
 use controller::{RxController, Tally};
 use forwarding::{Event, ForwardError, Gate, Who, admit};
 use rx_ring::{RxControllerEnd, RxRing};
@@ -26,6 +26,7 @@ pub(crate) struct RxSource<'a> {
     places: &'a [u32],
     controller: RxController,
     next: usize,
+    stored_bytes: u64,
     queue_phase: QueuePhase,
 }
 
@@ -36,9 +37,9 @@ impl<'a> Model for RxSource<'a> {
 
     ghost Value = { RxSource };
 
-    ghost view = { λ o. rx_source o.ring.now (frames_at o.script.now o.places.now) o.controller o.next o.queue_phase };
+    ghost view = { λ o. rx_source o.ring.now (frames_at o.script.now o.places.now) o.controller o.next o.stored_bytes o.queue_phase };
 
-    ghost invariant = { λ o. IsRxSource (rx_source o.ring.now (frames_at o.script.now o.places.now) o.controller o.next o.queue_phase) × All (λ k. k < length o.script.now) o.places.now };
+    ghost invariant = { λ o. IsRxSource (rx_source o.ring.now (frames_at o.script.now o.places.now) o.controller o.next o.stored_bytes o.queue_phase) × All (λ k. k < length o.script.now) o.places.now };
 }
 
 impl<'a> RxSource<'a> {
@@ -65,6 +66,7 @@ impl<'a> RxSource<'a> {
             places,
             controller: RxController::new(end, bsize, drop_en),
             next: 0,
+            stored_bytes: 0,
             queue_phase: QueuePhase::Waiting,
         }
     }
@@ -104,6 +106,7 @@ impl<'a> RxSource<'a> {
         let decided = is_decided(offer);
         if decided {
             self.next += 1;
+            self.stored_bytes += bytes_by(offer, frame.len());
         }
         Ok(decided)
     }
@@ -123,13 +126,13 @@ impl<'a> RxSource<'a> {
         self.controller.tally()
     }
 
-    /// Returns the end, which holds no buffer, and the tally.
-    pub(crate) fn into_end(self) -> (RxControllerEnd, Tally)
-        ensures offered { HasOffered self.entry.input result.0 result.1 }
+    /// Returns the end, which holds no buffer, the tally, and the bytes of the stored frames.
+    pub(crate) fn into_end(self) -> (RxControllerEnd, Tally, u64)
+        ensures offered { HasOffered self.entry.input result.0 result.1 result.2 }
         ensures tally { result.1 ≡ self.entry.controller.tally }
         ensures unheld { held result.0 ≡ None }
     {
         let tally = self.controller.tally();
-        (self.controller.into_end(), tally)
+        (self.controller.into_end(), tally, self.stored_bytes)
     }
 }

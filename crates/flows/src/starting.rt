@@ -1,5 +1,5 @@
 //! Starting a driver's side: it takes its buffers and posts those that fit.
-ghost use Rattle.std.specs.Prelude.{◌≡◌, true, [], ◌++◌, length};
+ghost use Rattle.std.specs.Prelude.{◌≡◌, ◌+◌, ◌≤◌, true, [], ◌++◌, length};
 ghost use Rattle.ring_model.specs.shared.Handshakes.{is_open};
 ghost use Rattle.rx_ring.specs.Ends.{driver_state, posted, published};
 ghost use Rattle.pool.specs.Owned.{IsOf};
@@ -28,6 +28,7 @@ pub(crate) fn stock_up<R: Wait>(
     ensures pool { IsOf pool.now pass.new }
     ensures share { pass.new.hand.share ≡ pass.old.hand.share }
     ensures posted { OnlyPosted end.old end.new }
+    ensures few { length pass.new.hand.held + result ≤ length pass.old.hand.held + most }
     ensures published { published end.new ≡ length (posted end.new) }
     ensures kept { Keeps pass.old.hand.held (stash.old ++ posted end.old) pass.new.hand.held (stash.new ++ posted end.new) }
 {

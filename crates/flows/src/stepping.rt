@@ -1,5 +1,5 @@
 //! A turn of a driver's side, phase by phase.
-ghost use Rattle.std.specs.Prelude.{◌≡◌, [], IfOk, IfErr, OnErr};
+ghost use Rattle.std.specs.Prelude.{◌≡◌, ◌+◌, ◌≤◌, [], length, IfOk, IfErr, OnErr};
 ghost use Rattle.teams.specs.Gates.{Met};
 ghost use Rattle.teams.specs.Numbers.{NoneFalls};
 ghost use Rattle.flows.specs.Counting.{driven};
@@ -158,6 +158,7 @@ impl FlowDrivers {
         requires { IsEquipped flow_spec.now self.old.pass (driving_of self.old) }
         ensures equipped { IsEquipped flow_spec.now self.new.pass (driving_of self.new) }
         ensures none { (self.new.stash ≡ []) × (self.new.packets.items ≡ []) }
+        ensures held { length self.new.pass.hand.held + self.new.short ≤ length self.old.pass.hand.held + self.old.short }
         ensures drivers { (self.new.rx ≡ self.old.rx) × (self.new.tx ≡ self.old.tx) }
     {
         self.drop_waiting(rt, flow_spec);

@@ -8,7 +8,7 @@ ghost use Rattle.forwarder.specs.Rings.{AreEnds};
 use crate::hot_flow::HotFlow;
 use crate::workload::Workload;
 use anyhow::Result;
-use flows::{DriverFlow, FlowSpec};
+use flows::{DriverFlow, FlowSpec, PoolPart};
 use forwarder::{Config, FlowRingEnds, FlowRings};
 use pool::{Pool, PoolPass};
 use std::alloc::Global;
@@ -66,7 +66,10 @@ fn make_side<'a, R: Wait>(
         from: &line.from,
         to: &line.to,
         pool,
-        share: SHARE as u64,
+        part: PoolPart {
+            share: SHARE as u64,
+            most,
+        },
         retry: config.retry,
         turns: config.turns,
     };
@@ -75,7 +78,6 @@ fn make_side<'a, R: Wait>(
         flow_spec,
         (ends.takes, ends.posts),
         pass,
-        most,
         config.batch as usize,
         config.rs_every as u16,
     );

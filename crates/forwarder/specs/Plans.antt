@@ -1,5 +1,5 @@
 -- The plan of each flow, and the keys of its two sides.
-use Rattle.std.specs.Prelude.{◌≡◌, ℕ, ◌<◌, List, slice_index_or}
+use Rattle.std.specs.Prelude.{◌≡◌, ℕ, ◌+◌, ◌*◌, ◌/◌, ◌<◌, List, min, slice_index_or}
 use Rattle.flows.specs.Keys.{ControllerKey, DriverKey, Plan, frames_at, plan_of}
 use Rattle.flows.specs.Reports.{IsReport}
 use Rattle.forwarding.specs.declared.report.FlowReport.{FlowReport}
@@ -13,6 +13,11 @@ use Rattle.forwarder.specs.Flows.{places_of}
 -- port and queue, in order.
 abbrev pub plan : Config → List Frame → ℕ → Plan
 plan c script flow = record { frames = frames_at script (places_of c.pairs flow script); size = c.ring; fill = c.bsize; drops = c.drop_en; retries = c.retry; turns = c.turns }
+
+-- The greatest number of buffers that a flow holds: its part of the buffers, but no more than a full receive ring and a full
+-- stash take.
+abbrev pub most_held : Config → ℕ
+most_held c = min (c.buffers / (2 * c.pairs)) (c.ring + 255)
 
 -- Both sides have the flow's two rings, and the driver's side has a share of 1 of the pool.
 pub record AreOfRings (pool : Pooled) (flow_rings : FlowRings) (d : DriverKey) (c : ControllerKey) : Type 0 where

@@ -59,6 +59,7 @@ fn make_pool<R: Wait>(
     ensures fits { IsErrOf result ConfigRefused ⊎ FitsIn script.now config.now }
     ensures refused { FitsIn script.now config.now → IfErr result (λ e. e ≡ Memory) }
     ensures pool { IfOk result (λ r. IsOf r.0 r.1) }
+    ensures buffers { IfOk result (λ r. r.0.count ≡ config.now.buffers) }
     ensures share { IfOk result (λ r. r.1.hand.share ≡ WHOLE_SHARE) }
 {
     config.check(script)?;

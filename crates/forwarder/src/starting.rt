@@ -4,9 +4,10 @@ ghost use Rattle.flows.specs.Counting.{none};
 ghost use Rattle.pool.specs.Owned.{IsOf};
 ghost use Rattle.shared_ring.specs.Calls.{IsFreshDriver};
 ghost use Rattle.settings.specs.Configs.{IsLawful};
+ghost use Rattle.forwarder.specs.Plans.{most_held};
 
 use crate::flow_rings::FlowRings;
-use flows::{DriverFlow, FlowSpec};
+use flows::{DriverFlow, FlowSpec, PoolPart};
 use pool::{Pool, PoolPass};
 use rx_ring::RxDriverEnd;
 use settings::Config;
@@ -40,21 +41,24 @@ pub fn start_flow<'a, R: Wait>(
     requires fresh { IsFreshDriver ends.0 × IsFreshDriver ends.1 }
     requires pool { IsOf pool.now pass.old }
     requires share { 1 < pass.old.hand.share }
-    ensures key { result.key ≡ record { number = number; from = flow_rings.entry.now.from; to = flow_rings.entry.now.to; pool = pool.entry.now; share = 1; retries = config.now.retry; turns = config.now.turns } }
+    ensures key { result.key ≡ record { number = number; from = flow_rings.entry.now.from; to = flow_rings.entry.now.to; pool = pool.entry.now; share = 1; most = most_held config.now; retries = config.now.retry; turns = config.now.turns } }
+    ensures numbers { (result.driving.rx.batch ≡ config.now.batch) × (result.driving.tx.every ≡ config.now.rs_every) }
     ensures counts { result.counts ≡ none }
     ensures pool { IsOf pool.entry.now pass.new }
     ensures share { pass.new.hand.share + 1 ≡ pass.old.hand.share }
     ensures held { pass.new.hand.held ≡ pass.old.hand.held }
 {
     let share = config.buffers / (2 * config.pairs);
-    let most = share.min(config.ring + STASHED) as usize;
     let own = pass.split(pool, SHARE);
     let flow_spec = FlowSpec {
         number,
         from: &flow_rings.from,
         to: &flow_rings.to,
         pool,
-        share: SHARE as u64,
+        part: PoolPart {
+            share: SHARE as u64,
+            most: share.min(config.ring + STASHED) as usize,
+        },
         retry: config.retry,
         turns: config.turns,
     };
@@ -63,7 +67,6 @@ pub fn start_flow<'a, R: Wait>(
         flow_spec,
         ends,
         own,
-        most,
         config.batch as usize,
         config.rs_every as u16,
     )

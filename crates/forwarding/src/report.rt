@@ -1,5 +1,6 @@
 //! The report of a flow.
 use controller::Wire;
+use std::fmt;
 
 /// How a flow ended.
 #[derive(Clone, Copy, Debug, PartialEq, Eq)]
@@ -17,6 +18,8 @@ pub struct FlowReport {
     pub offered: u64,
     /// The frames that were stored.
     pub stored: u64,
+    /// The bytes of the stored frames.
+    pub stored_bytes: u64,
     /// The frames that were dropped because too few descriptors were free.
     pub dropped: u64,
     /// The frames that need more descriptors than the ring can have free.
@@ -33,4 +36,25 @@ pub struct FlowReport {
     pub left: u64,
     /// How the flow ended.
     pub ended: Ended,
+}
+
+impl fmt::Debug for FlowReport {
+    /// Writes the counts, and the number of frames on the wire in place of their bytes.
+    fn fmt<W: fmt::Write>(&self, f: &mut fmt::Formatter<W>) -> fmt::Result {
+        write!(
+            f,
+            "FlowReport {{ offered: {}, stored: {}, stored_bytes: {}, dropped: {}, oversize: {}, ",
+            self.offered, self.stored, self.stored_bytes, self.dropped, self.oversize
+        )?;
+        write!(
+            f,
+            "taken: {}, posted: {}, tx_dropped: {}, wire: {}, left: {}, ended: {:?} }}",
+            self.taken,
+            self.posted,
+            self.tx_dropped,
+            self.wire.len(),
+            self.left,
+            self.ended
+        )
+    }
 }

@@ -1,7 +1,8 @@
-use Rattle.std.proofs.Common.{◌∙◌, ◌++◌, List, ap, refl}
+use Rattle.std.proofs.Common.{◌∙◌, ◌+◌, ◌++◌, List, ap, refl, arith}
+use Rattle.std.proofs.Math.Nat.{min-le_left}
 use Rattle.buffer_pool.specs.Buffer.{Buffer}
 use Rattle.driver.specs.receive.Returns.{numbers_of}
-use Rattle.flows.proofs.Holds.{keeps-on, holds-on, is-held, gave-one, moved-one}
+use Rattle.flows.proofs.Holds.{keeps-on, holds-on, is-held, gave-less, gave-one, moved-one}
 use Rattle.flows.proofs.holding.drop_packet.Goals as goal
 
 pub give-requires-clause-held : goal.give-requires-clause-held
@@ -13,12 +14,15 @@ give-requires-clause-held g c =
 pub loop-buf-preserved-then-is_full : goal.loop-buf-preserved-then-is_full
 loop-buf-preserved-then-is_full g c =
     let l = c.loop-buf in let held = c.args.pass.now.hand.held in let had = c.args.stash.now ++ numbers_of c.args.packet in let now = l.stash ++ numbers_of l.packet in
-    let holds = holds-on held had l.pass.hand.held now c.requires.held l.invariant.kept in record {
+    let new = c.give.new.pass.hand.held in let rest = l.stash ++ numbers_of c.pop_front.new.self in let n = c.in-Some.buf.number in
+    let first = ap (λ (p : List Buffer). l.stash ++ numbers_of p) c.in-Some.ensures.rest in
+    let holds = holds-on held had l.pass.hand.held now c.requires.held l.invariant.kept in
+    let gave = gave-one l.pass.hand.held now new rest n l.stash (numbers_of c.pop_front.new.self) first refl holds c.give.ensures.given.held in record {
       pool = c.give.ensures.pool;
       share = c.give.ensures.given.share ∙ l.invariant.share;
-      kept = keeps-on held had l.pass.hand.held now c.give.new.pass.hand.held (l.stash ++ numbers_of c.pop_front.new.self) l.invariant.kept
-          (gave-one l.pass.hand.held now c.give.new.pass.hand.held (l.stash ++ numbers_of c.pop_front.new.self) c.in-Some.buf.number l.stash (numbers_of c.pop_front.new.self)
-          (ap (λ (p : List Buffer). l.stash ++ numbers_of p) c.in-Some.ensures.rest) refl holds c.give.ensures.given.held);
+      held = (let less = gave-less l.pass.hand.held now new rest n l.stash (numbers_of c.pop_front.new.self) first refl gave in let so_far = l.invariant.held in
+          let one = min-le_left (l.short + 1) 18446744073709551615 in omega (arith, less, so_far, one));
+      kept = keeps-on held had l.pass.hand.held now new rest l.invariant.kept gave;
     }
 
 pub loop-buf-preserved : goal.loop-buf-preserved
@@ -26,6 +30,7 @@ loop-buf-preserved g c =
     let l = c.loop-buf in let held = c.args.pass.now.hand.held in let had = c.args.stash.now ++ numbers_of c.args.packet in let now = l.stash ++ numbers_of l.packet in record {
       pool = l.invariant.pool;
       share = l.invariant.share;
+      held = l.invariant.held;
       kept = keeps-on held had l.pass.hand.held now l.pass.hand.held (c.push.new.self ++ numbers_of c.pop_front.new.self) l.invariant.kept
           (moved-one l.pass.hand.held now (c.push.new.self ++ numbers_of c.pop_front.new.self) c.in-Some.buf.number l.stash (numbers_of c.pop_front.new.self)
           (ap (λ (p : List Buffer). l.stash ++ numbers_of p) c.in-Some.ensures.rest) (ap (λ l. l ++ numbers_of c.pop_front.new.self) c.push.ensures));

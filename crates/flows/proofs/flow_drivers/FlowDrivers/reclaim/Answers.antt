@@ -1,4 +1,4 @@
-use Rattle.std.proofs.Common.{rules, ◌∙◌, ap, sym, length}
+use Rattle.std.proofs.Common.{rules, ◌∙◌, ap, sym, length, arith}
 use Rattle.std.specs.Prelude.{Some}
 use Rattle.std.proofs.lemmas.Bool.{false≢true}
 use Rattle.ring_model.specs.transmit.Ring.{number_of_posting}
@@ -22,6 +22,7 @@ returns-then-is_err g c =
     let back : GaveBack d.rx d.stash r.new.self r.new.stash = r.ensures.back at.rx_stands.0 in record {
       equipped = back-rx k h.new.self.pass d r.new.self r.new.stash h.ensures.equipped r.ensures.ring back;
       at = closing-rx k d c.args.counts left.ended left.untaken left.unsent r.new.self d.stash r.new.stash d.packets at r.ensures.ring back;
+      few = (let was = c.requires.few in let less = h.ensures.held in omega (arith, was, less));
       given_back = λ e. absurd (false≢true e);
     }
 
@@ -34,6 +35,7 @@ returns-then-is_err-2 g c =
     let came : CameBack number_of_posting d.tx.end r.new.stash s.new.self.end s.new.stash = (s.ensures.back at.tx_stands.0).ring in record {
       equipped = back-tx k h.new.self.pass e s.new.self s.new.stash (back-rx k h.new.self.pass d r.new.self r.new.stash h.ensures.equipped r.ensures.ring back) s.ensures.ring came;
       at = closing-tx k e c.args.counts left.ended left.untaken left.unsent s.new.self e.stash s.new.stash e.packets (closing-rx k d c.args.counts left.ended left.untaken left.unsent r.new.self d.stash r.new.stash d.packets at r.ensures.ring back) s.ensures.ring s.ensures.known came;
+      few = (let was = c.requires.few in let less = h.ensures.held in omega (arith, was, less));
       given_back = λ e. absurd (false≢true e);
     }
 
@@ -62,6 +64,7 @@ returns g c =
     let rx_is = last.ensures.drivers.0 in let tx_is = last.ensures.drivers.1 in record {
       equipped = last.ensures.equipped;
       at = closing-still k f done c.args.counts left.ended (Some left.untaken) (Some left.unsent) rx_is tx_is at';
+      few = (let was = c.requires.few in let less = h.ensures.held in let fewer = last.ensures.held in omega (arith, was, less, fewer));
       given_back = λ _. all-back k last.new.self.pass done last.ensures.equipped last.ensures.none.0 last.ensures.none.1 (ap (λ (x : Receiver). x.chain) rx_is ∙ emptied.no_chain)
           (ap (λ (x : Receiver). receive.returned x.end) rx_is ∙ (emptied.none_out ∙ ap (λ (x : Receiver). length (receive.posted x.end)) (sym rx_is)))
           (ap (λ (x : Transmitter). transmit.returned x.end) tx_is ∙ (emptied'.none_out ∙ ap (λ (x : Transmitter). length (transmit.posted x.end)) (sym tx_is)));
