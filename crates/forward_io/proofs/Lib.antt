@@ -1,4 +1,5 @@
 mod Lines
+mod Totals
 pub mod Piping
 mod Passing
 mod Captures

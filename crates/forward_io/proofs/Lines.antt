@@ -1,11 +1,14 @@
 -- Lines that are written one after another: what is written, and what is left to be written, is the whole at each step.
-use Rattle.std.proofs.Common.{◌≡◌, ◌∙◌, ℕ, Bool, false, ◌+◌, ◌<◌, ◌≤◌, List, [], ◌∷◌, ◌++◌, ap, sym, drop, length, map, take, get_or}
+use Rattle.std.proofs.Common.{◌≡◌, ◌∙◌, ℕ, Bool, false, true, ◌+◌, ◌<◌, ◌≤◌, List, [], ◌∷◌, ◌++◌, ap, ap₂, sym, drop, length, map, take, get_or}
 use Rattle.std.proofs.lemmas.Grind.{flat_map-append}
 use Rattle.std.proofs.lemmas.List.{append_assoc, append-nil, at_drop_all, at_drop_more}
 use Rattle.forwarding.specs.declared.report.FlowReport.{FlowReport}
 use Rattle.wire_script.specs.Frame.{Frame, frame_of}
 use Rattle.wire_script.specs.Script.{line_for, text_for}
-use Rattle.forward_io.specs.Objects.{direction_members, driven_members, ended_member, flow_object, offered_members}
+use Rattle.forwarding.specs.Peers.{peer, place}
+use Rattle.forward_io.specs.Leaving.{leaving}
+use Rattle.forward_io.specs.Objects.{direction_members, driven_members, end_members, ended_member, flow_object, offered_members, port_object, port_objects, sums_of}
+use Rattle.forward_io.specs.declared.sums.PortSums.{PortSums}
 use Rattle.forward_io.specs.Text.{both_text, driven_words, ending_words, flow_line, flow_text, flow_texts, offered_words, report_text, wires_from, wires_text}
 use Rattle.requests.specs.declared.printing.Printing.{Printing}
 
@@ -23,17 +26,17 @@ line-written port queue r before t1 t2 t3 one two three = parts (offered_words p
     parts a b c one two three =
         three ∙ (ap (λ (t : List ℕ). t ++ c) (two ∙ ap (λ (t : List ℕ). t ++ b) one) ∙ (append_assoc (before ++ a) b c ∙ append_assoc before a (b ++ c)))
 
--- the four parts of a flow's object
-pub object-written : (port queue : ℕ) (r : FlowReport) (before t1 t2 t3 t4 : List ℕ) → t1 ≡ before ++ offered_members port queue r → t2 ≡ t1 ++ driven_members r
-    → t3 ≡ t2 ++ direction_members r → t4 ≡ t3 ++ ended_member r → t4 ≡ before ++ flow_object port queue r
+-- the five parts of a flow's object
+pub object-written : (port queue : ℕ) (r : FlowReport) (before t1 t2 t3 t4 t5 : List ℕ) → t1 ≡ before ++ end_members (place port queue) (peer (place port queue))
+    → t2 ≡ t1 ++ offered_members r → t3 ≡ t2 ++ driven_members r → t4 ≡ t3 ++ direction_members r → t5 ≡ t4 ++ ended_member r → t5 ≡ before ++ flow_object port queue r
 unfolding flow_object
-object-written port queue r before t1 t2 t3 t4 one two three four =
-    parts (offered_members port queue r) (driven_members r) (direction_members r) (ended_member r) one two three four
+object-written port queue r before t1 t2 t3 t4 t5 one two three four five =
+    parts (end_members (place port queue) (peer (place port queue))) (offered_members r) (driven_members r) (direction_members r) (ended_member r) one two three four five
   where
-    parts : (a b c d : List ℕ) → t1 ≡ before ++ a → t2 ≡ t1 ++ b → t3 ≡ t2 ++ c → t4 ≡ t3 ++ d → t4 ≡ before ++ (a ++ (b ++ (c ++ d)))
-    parts a b c d one two three four =
-        four ∙ (ap (λ (t : List ℕ). t ++ d) (three ∙ ap (λ (t : List ℕ). t ++ c) (two ∙ ap (λ (t : List ℕ). t ++ b) one))
-        ∙ (append_assoc ((before ++ a) ++ b) c d ∙ (append_assoc (before ++ a) b (c ++ d) ∙ append_assoc before a (b ++ (c ++ d)))))
+    parts : (a b c d e : List ℕ) → t1 ≡ before ++ a → t2 ≡ t1 ++ b → t3 ≡ t2 ++ c → t4 ≡ t3 ++ d → t5 ≡ t4 ++ e → t5 ≡ before ++ (a ++ (b ++ (c ++ (d ++ e))))
+    parts a b c d e one two three four five =
+        five ∙ ap (λ (t : List ℕ). t ++ e) (four ∙ ap (λ (t : List ℕ). t ++ d) (three ∙ ap (λ (t : List ℕ). t ++ c) (two ∙ ap (λ (t : List ℕ). t ++ b) one)))
+        ∙ append_assoc (((before ++ a) ++ b) ++ c) d e ∙ append_assoc ((before ++ a) ++ b) c (d ++ e) ∙ append_assoc (before ++ a) b (c ++ (d ++ e)) ∙ append_assoc before a (b ++ (c ++ (d ++ e)))
 
 -- a frame more of a wire
 pub frame-more : (port queue : ℕ) (bytes : List ℕ) (rest : List (List ℕ)) (before after whole : List ℕ)
@@ -79,23 +82,35 @@ flows-all json port k flows before whole all is =
     sym (append-nil before) ∙ (ap (λ (t : List ℕ). before ++ t) (sym none) ∙ is)
 
 -- both wires, one after another
-pub both-written : (quiet : Bool) (front back : List FlowReport) (t t1 t2 : List ℕ) → quiet ≡ false → t1 ≡ t ++ text_for (wires_from 0 0 back)
-    → t2 ≡ t1 ++ text_for (wires_from 1 0 front) → t2 ≡ t ++ wires_text quiet front back
-both-written quiet front back t t1 t2 loud one two =
-    let a : List Frame = wires_from 0 0 back in
-    let b : List Frame = wires_from 1 0 front in
+pub both-written : (quiet : Bool) (front back to_0 to_1 : List FlowReport) (t t1 t2 : List ℕ) → quiet ≡ false → to_0 ≡ leaving 0 front back → to_1 ≡ leaving 1 front back
+    → t1 ≡ t ++ text_for (wires_from 0 0 to_0) → t2 ≡ t1 ++ text_for (wires_from 1 0 to_1) → t2 ≡ t ++ wires_text quiet front back
+both-written quiet front back to_0 to_1 t t1 t2 loud is_0 is_1 one two =
+    let a : List Frame = wires_from 0 0 to_0 in
+    let b : List Frame = wires_from 1 0 to_1 in
     two ∙ (ap (λ (s : List ℕ). s ++ text_for b) one ∙ (append_assoc t (text_for a) (text_for b) ∙ ap (λ (s : List ℕ). t ++ s) (sym (flat_map-append line_for a b))
-    ∙ ap (λ (q : Bool). t ++ wires_text q front back) (sym loud)))
+    ∙ (ap₂ (λ (x y : List FlowReport). t ++ text_for (wires_from 0 0 x ++ wires_from 1 0 y)) is_0 is_1 ∙ ap (λ (q : Bool). t ++ wires_text q front back) (sym loud))))
 
--- and all flows behind them are the text of the report
-pub report-written : (printing : Printing) (pairs : ℕ) (flows front back : List FlowReport) (t t1 t2 t3 : List ℕ)
+-- both ports' objects
+pub ports-written : (json : Bool) (front back to_0 to_1 : List FlowReport) (s_0 s_1 : PortSums) (t t1 t2 : List ℕ) → json ≡ true → to_0 ≡ leaving 0 front back
+    → to_1 ≡ leaving 1 front back → s_0 ≡ sums_of front to_0 → s_1 ≡ sums_of back to_1 → t1 ≡ t ++ port_object 0 s_0 → t2 ≡ t1 ++ port_object 1 s_1
+    → t2 ≡ t ++ port_objects json front back
+ports-written json front back to_0 to_1 s_0 s_1 t t1 t2 is is_0 is_1 sum_0 sum_1 one two =
+    two ∙ ap (λ (s : List ℕ). s ++ port_object 1 s_1) one ∙ append_assoc t (port_object 0 s_0) (port_object 1 s_1)
+    ∙ ap₂ (λ (x y : PortSums). t ++ (port_object 0 x ++ port_object 1 y)) (sum_0 ∙ ap (sums_of front) is_0) (sum_1 ∙ ap (sums_of back) is_1)
+    ∙ ap (λ (q : Bool). t ++ port_objects q front back) (sym is)
+
+-- and all flows and both ports behind them are the text of the report
+pub report-written : (printing : Printing) (pairs : ℕ) (flows front back : List FlowReport) (t t1 t2 t3 t4 : List ℕ)
     → front ≡ take pairs flows → back ≡ drop pairs flows → t ≡ []
     → t1 ≡ t ++ wires_text printing.quiet front back
-    → t2 ≡ t1 ++ flow_texts printing.json 0 0 front → t3 ≡ t2 ++ flow_texts printing.json 1 0 back → t3 ≡ report_text printing pairs flows
-report-written printing pairs flows front back t t1 t2 t3 front_is back_is none one two three =
+    → t2 ≡ t1 ++ flow_texts printing.json 0 0 front → t3 ≡ t2 ++ flow_texts printing.json 1 0 back → t4 ≡ t3 ++ port_objects printing.json front back
+    → t4 ≡ report_text printing pairs flows
+report-written printing pairs flows front back t t1 t2 t3 t4 front_is back_is none one two three four =
     let w : List ℕ = wires_text printing.quiet front back in
     let c : List ℕ = flow_texts printing.json 0 0 front in
     let d : List ℕ = flow_texts printing.json 1 0 back in
+    let e : List ℕ = port_objects printing.json front back in
     let wires : t1 ≡ w = one ∙ ap (λ (s : List ℕ). s ++ w) none in
-    let written : t3 ≡ w ++ (c ++ d) = three ∙ (ap (λ (s : List ℕ). s ++ d) (two ∙ ap (λ (s : List ℕ). s ++ c) wires) ∙ append_assoc w c d) in
+    let written : t4 ≡ w ++ (c ++ (d ++ e)) =
+    four ∙ ap (λ (s : List ℕ). s ++ e) (three ∙ ap (λ (s : List ℕ). s ++ d) (two ∙ ap (λ (s : List ℕ). s ++ c) wires)) ∙ append_assoc (w ++ c) d e ∙ append_assoc w c (d ++ e) in
     written ∙ (ap (λ (f : List FlowReport). both_text printing f back) front_is ∙ ap (λ (g : List FlowReport). both_text printing (take pairs flows) g) back_is)

@@ -1,6 +1,6 @@
 -- Records of frames that are written one after another: what is written, and what is left to be written, is the whole at
 -- each step; and of what leaves both ports, what leaves one.
-use Rattle.std.proofs.Common.{◌≡◌, ◌∙◌, ℕ, ◌+◌, ◌<◌, ◌≤◌, ◌==◌, true, false, List, [], ◌∷◌, ◌++◌, ap, ap₂, refl, sym, drop, length, map, take, get_or, arith}
+use Rattle.std.proofs.Common.{◌≡◌, ◌∙◌, ℕ, zero, suc, ◌+◌, ◌<◌, ◌≤◌, ◌==◌, true, false, List, [], ◌∷◌, ◌++◌, ap, ap₂, refl, sym, drop, length, map, take, get_or, arith}
 use Rattle.std.specs.List.{flat_map}
 use Rattle.std.proofs.lemmas.Grind.{flat_map-append}
 use Rattle.std.proofs.lemmas.List.{append_assoc, append-nil, at_drop_all, at_drop_more, length-map}
@@ -9,6 +9,7 @@ use Rattle.capture.specs.Record.{Record}
 use Rattle.capture.specs.Writing.{capture_of, record_bytes}
 use Rattle.capture.specs.Records.{frames_of_port, record_at, records_from}
 use Rattle.forwarding.specs.declared.report.FlowReport.{FlowReport}
+use Rattle.forward_io.specs.Leaving.{leaving}
 use Rattle.forward_io.specs.Text.{wires_from}
 use Rattle.wire_script.specs.Frame.{Frame, frame_of}
 use Rattle.forward_io.specs.Wires.{port_capture}
@@ -94,7 +95,7 @@ other-port from port queue (r ∷ rs) other =
     ∙ ap₂ (λ (a b : List Frame). a ++ b) (other-wire from port queue r.wire other) (other-port from port (queue + 1) rs other)
 
 -- the capture of port 0, whose frames came in at port 1
-pub of-port-0 : (pairs : ℕ) (flows : List FlowReport) → capture_of (records_from 0 (wires_from 0 0 (drop pairs flows))) ≡ port_capture 0 pairs flows
+of-port-0 : (pairs : ℕ) (flows : List FlowReport) → capture_of (records_from 0 (wires_from 0 0 (drop pairs flows))) ≡ port_capture 0 pairs flows
 of-port-0 pairs flows =
     let back : List Frame = wires_from 0 0 (drop pairs flows) in
     let front : List Frame = wires_from 1 0 (take pairs flows) in
@@ -102,9 +103,16 @@ of-port-0 pairs flows =
     ∙ (ap₂ (λ (a b : List Frame). a ++ b) (same-port 0 0 0 (drop pairs flows) refl) (other-port 1 0 0 (take pairs flows) refl) ∙ append-nil back)))
 
 -- and of port 1
-pub of-port-1 : (pairs : ℕ) (flows : List FlowReport) → capture_of (records_from 0 (wires_from 1 0 (take pairs flows))) ≡ port_capture 1 pairs flows
+of-port-1 : (pairs : ℕ) (flows : List FlowReport) → capture_of (records_from 0 (wires_from 1 0 (take pairs flows))) ≡ port_capture 1 pairs flows
 of-port-1 pairs flows =
     let back : List Frame = wires_from 0 0 (drop pairs flows) in
     let front : List Frame = wires_from 1 0 (take pairs flows) in
     ap (λ (fs : List Frame). capture_of (records_from 0 fs)) (sym (filter-append (λ f. f.port == 1) back front
     ∙ ap₂ (λ (a b : List Frame). a ++ b) (other-port 0 1 0 (drop pairs flows) refl) (same-port 1 1 0 (take pairs flows) refl)))
+
+-- and of either port
+pub of-port : (port pairs : ℕ) (flows to : List FlowReport) → port < 2 → to ≡ leaving port (take pairs flows) (drop pairs flows)
+    → capture_of (records_from 0 (wires_from port 0 to)) ≡ port_capture port pairs flows
+of-port zero pairs flows to low is = ap (λ (rs : List FlowReport). capture_of (records_from 0 (wires_from 0 0 rs))) is ∙ of-port-0 pairs flows
+of-port (suc zero) pairs flows to low is = ap (λ (rs : List FlowReport). capture_of (records_from 0 (wires_from 1 0 rs))) is ∙ of-port-1 pairs flows
+of-port (suc (suc port)) pairs flows to low is = absurd (omega (arith, low))

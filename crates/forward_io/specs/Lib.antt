@@ -1,3 +1,5 @@
+pub mod Leaving
+pub mod Sums
 pub mod Objects
 pub mod Text
 pub mod Skips

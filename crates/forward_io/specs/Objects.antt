@@ -1,18 +1,29 @@
 -- A flow's report as a JSON object on its own line.
-use Rattle.std.specs.Prelude.{ℕ, List, ◌++◌, codes, decimal, length, sum_by}
+use Rattle.std.specs.Prelude.{ℕ, ◌-◌, ◌^◌, Bool, true, false, List, [], ◌++◌, codes, decimal, length, min, sum_by}
 use Rattle.forwarding.specs.declared.report.Ended.{Ended}
 use Rattle.forwarding.specs.declared.report.Ended.TheVariants.{Cut, Drained}
 use Rattle.forwarding.specs.declared.report.FlowReport.{FlowReport}
+use Rattle.forwarding.specs.declared.ports.PortQueue.{PortQueue}
+use Rattle.forwarding.specs.Peers.{peer, place}
+use Rattle.forward_io.specs.Leaving.{leaving}
+use Rattle.forward_io.specs.declared.sums.PortSums.{PortSums}
 
 abbrev pub ended_word : Ended → List ℕ
 ended_word Drained = codes "drained"
 ended_word Cut = codes "cut"
 
--- the frames offered to the flow at this port and queue, and their fate at its receive ring
-abbrev pub offered_members : ℕ → ℕ → FlowReport → List ℕ
-offered_members port queue r =
-    codes "{\"port\":" ++ (decimal port ++ (codes ",\"queue\":" ++ (decimal queue ++ (codes ",\"offered\":" ++ (decimal r.offered
-    ++ (codes ",\"stored\":" ++ (decimal r.stored ++ (codes ",\"dropped\":" ++ (decimal r.dropped ++ (codes ",\"oversize\":" ++ decimal r.oversize))))))))))
+-- where the frames of a flow come in, and where they leave
+abbrev pub end_members : PortQueue → PortQueue → List ℕ
+end_members input output =
+    codes "{\"port\":" ++ (decimal input.port ++ (codes ",\"queue\":" ++ (decimal input.queue
+    ++ (codes ",\"rx_port\":" ++ (decimal input.port ++ (codes ",\"rx_queue\":" ++ (decimal input.queue
+    ++ (codes ",\"tx_port\":" ++ (decimal output.port ++ (codes ",\"tx_queue\":" ++ decimal output.queue))))))))))
+
+-- the frames offered to the flow, and their fate at its receive ring
+abbrev pub offered_members : FlowReport → List ℕ
+offered_members r =
+    codes ",\"offered\":" ++ (decimal r.offered ++ (codes ",\"stored\":" ++ (decimal r.stored
+    ++ (codes ",\"dropped\":" ++ (decimal r.dropped ++ (codes ",\"oversize\":" ++ decimal r.oversize))))))
 
 -- the counts of its driver, and the frames that went out and remained
 abbrev pub driven_members : FlowReport → List ℕ
@@ -21,19 +32,56 @@ driven_members r =
     ++ (codes ",\"wire\":" ++ (decimal (length r.wire) ++ (codes ",\"left\":" ++ decimal r.left))))))))
 
 -- frames and bytes by direction, under the names of ethtool and testpmd
-abbrev pub directions : ℕ → ℕ → ℕ → ℕ → List ℕ
-directions received dropped sent bytes =
-    codes ",\"rx_packets\":" ++ (decimal received ++ (codes ",\"rx_dropped\":" ++ (decimal dropped
-    ++ (codes ",\"tx_packets\":" ++ (decimal sent ++ (codes ",\"tx_bytes\":" ++ decimal bytes))))))
+abbrev pub directions : FlowReport → ℕ → ℕ → List ℕ
+directions r sent bytes =
+    codes ",\"rx_packets\":" ++ (decimal r.stored ++ (codes ",\"rx_bytes\":" ++ (decimal r.stored_bytes ++ (codes ",\"rx_dropped\":" ++ (decimal r.dropped
+    ++ (codes ",\"tx_packets\":" ++ (decimal sent ++ (codes ",\"tx_bytes\":" ++ decimal bytes))))))))
 
 -- stored frames count as received, and frames on the wire as sent
 abbrev pub direction_members : FlowReport → List ℕ
-direction_members r = directions r.stored r.dropped (length r.wire) (sum_by length r.wire)
+direction_members r = directions r (length r.wire) (sum_by length r.wire)
 
 -- how it ended
 abbrev pub ended_member : FlowReport → List ℕ
 ended_member r = codes ",\"ended\":\"" ++ (ended_word r.ended ++ codes "\"}\n")
 
--- the object of a flow
+-- the object of the flow that came in at this port and queue
 unfoldable pub flow_object : ℕ → ℕ → FlowReport → List ℕ
-flow_object port queue r = offered_members port queue r ++ (driven_members r ++ (direction_members r ++ ended_member r))
+flow_object port queue r =
+    end_members (place port queue) (peer (place port queue)) ++ (offered_members r ++ (driven_members r ++ (direction_members r ++ ended_member r)))
+
+-- the sum of a count over flows, at most 2^64 - 1
+abbrev pub total : (FlowReport → ℕ) → List FlowReport → ℕ
+total count flows = min (sum_by count flows) (2 ^ 64 - 1)
+
+-- the sums of the flows that came in at a port, and of those that left it
+abbrev pub sums_of : List FlowReport → List FlowReport → PortSums
+sums_of came left = record {
+  rx_packets = total (λ r. r.stored) came;
+  rx_bytes = total (λ r. r.stored_bytes) came;
+  rx_dropped = total (λ r. r.dropped) came;
+  tx_packets = total (λ r. length r.wire) left;
+  tx_bytes = total (λ r. sum_by length r.wire) left;
+  tx_dropped = total (λ r. r.tx_dropped) left;
+}
+
+-- the frames and bytes that came in at a port
+abbrev pub received_members : ℕ → PortSums → List ℕ
+received_members port s =
+    codes "{\"port\":" ++ (decimal port ++ (codes ",\"rx_packets\":" ++ (decimal s.rx_packets
+    ++ (codes ",\"rx_bytes\":" ++ (decimal s.rx_bytes ++ (codes ",\"rx_dropped\":" ++ decimal s.rx_dropped))))))
+
+-- and those that left it
+abbrev pub sent_members : PortSums → List ℕ
+sent_members s =
+    codes ",\"tx_packets\":" ++ (decimal s.tx_packets ++ (codes ",\"tx_bytes\":" ++ (decimal s.tx_bytes
+    ++ (codes ",\"tx_dropped\":" ++ (decimal s.tx_dropped ++ codes "}\n")))))
+
+-- the object of a port, which has no queue
+abbrev pub port_object : ℕ → PortSums → List ℕ
+port_object port s = received_members port s ++ sent_members s
+
+-- both ports' objects, if objects are printed
+abbrev pub port_objects : Bool → List FlowReport → List FlowReport → List ℕ
+port_objects false front back = []
+port_objects true front back = port_object 0 (sums_of front (leaving 0 front back)) ++ port_object 1 (sums_of back (leaving 1 front back))

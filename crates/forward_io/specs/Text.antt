@@ -1,10 +1,11 @@
 -- The text of a report: the frames of the wires as script lines, unless it is quiet, then a line or an object for each
--- flow.
+-- flow, and with objects also one for each port.
 use Rattle.std.specs.Prelude.{ℕ, ◌+◌, Bool, true, false, if◌then◌else◌, List, [], ◌∷◌, ◌++◌, codes, decimal, drop, length, map, take}
 use Rattle.forwarding.specs.declared.report.FlowReport.{FlowReport}
 use Rattle.wire_script.specs.Frame.{Frame, frame_of}
 use Rattle.wire_script.specs.Script.{text_for}
-use Rattle.forward_io.specs.Objects.{ended_word, flow_object}
+use Rattle.forward_io.specs.Leaving.{leaving}
+use Rattle.forward_io.specs.Objects.{ended_word, flow_object, port_objects}
 use Rattle.requests.specs.declared.printing.Printing.{Printing}
 
 -- the frames that left a port, of the flows of its queues from this one on
@@ -12,10 +13,9 @@ abbrev pub wires_from : ℕ → ℕ → List FlowReport → List Frame
 wires_from port queue [] = []
 wires_from port queue (r ∷ rs) = map (frame_of port queue) r.wire ++ wires_from port (queue + 1) rs
 
--- The frames that left both ports, of the flows that came in at port 0, and of those of port 1: frames that come in at
--- one port leave at the other
+-- the frames that left both ports, of the flows that came in at port 0, and of those of port 1
 abbrev pub wires_of : List FlowReport → List FlowReport → List Frame
-wires_of front back = wires_from 0 0 back ++ wires_from 1 0 front
+wires_of front back = wires_from 0 0 (leaving 0 front back) ++ wires_from 1 0 (leaving 1 front back)
 
 -- their lines, unless `quiet` is set
 abbrev pub wires_text : Bool → List FlowReport → List FlowReport → List ℕ
@@ -52,7 +52,8 @@ flow_texts json port queue (r ∷ rs) = flow_text json port queue r ++ flow_text
 
 -- the text of the reports of both ports' flows
 abbrev pub both_text : Printing → List FlowReport → List FlowReport → List ℕ
-both_text printing front back = wires_text printing.quiet front back ++ (flow_texts printing.json 0 0 front ++ flow_texts printing.json 1 0 back)
+both_text printing front back =
+    wires_text printing.quiet front back ++ (flow_texts printing.json 0 0 front ++ (flow_texts printing.json 1 0 back ++ port_objects printing.json front back))
 
 -- the text of a report with `pairs` queue pairs at each port
 abbrev pub report_text : Printing → ℕ → List FlowReport → List ℕ

@@ -13,9 +13,11 @@
 pub mod captured;
 mod explaining;
 mod objects;
+mod outputs;
 pub mod piped;
 mod progress;
 mod skips;
+mod sums;
 mod text;
 
 pub use progress::{LiveTotals, ProgressLine};

@@ -1,11 +1,13 @@
-//! A flow's report as a JSON object.
-ghost use Rattle.std.specs.Prelude.{◌≡◌, ◌++◌, length, sum_by, IfErr, OnOk};
+//! The reports of flows, and the sums of ports, as JSON objects.
+ghost use Rattle.std.specs.Prelude.{◌≡◌, ◌<◌, ◌++◌, true, IfErr, OnOk};
 ghost use Rattle.std.specs.String.{string_bytes};
 ghost use Rattle.requests.specs.declared.refusal.Refusal.TheVariants.{Memory};
-ghost use Rattle.forward_io.specs.Objects.{direction_members, driven_members, ended_member, ended_word, flow_object, offered_members};
+ghost use Rattle.limits.specs.declared.profile.TheConstants.{PORTS};
+ghost use Rattle.forward_io.specs.Objects.{direction_members, driven_members, end_members, ended_member, ended_word, flow_object, offered_members, port_object, port_objects, received_members, sent_members};
 
-use controller::Wire;
-use forwarding::{Ended, FlowReport};
+use crate::outputs::leaving;
+use crate::sums::{PortSums, bytes_of};
+use forwarding::{Ended, FlowReport, PortQueue, peer};
 use requests::Refusal;
 
 /// The printed word for how a flow ended.
@@ -18,18 +20,6 @@ pub(crate) fn word_of(ended: Ended) -> &'static str
     }
 }
 
-/// Number of bytes on the wire. They are all in memory, so the sum cannot overflow.
-fn bytes_of(wire: &Wire) -> usize
-    ensures { result ≡ sum_by length wire.now }
-{
-    let (_, _most) = wire.capacity();
-    let mut bytes = 0usize;
-    for frame in wire.iter() {
-        bytes += frame.len();
-    }
-    bytes
-}
-
 /// Writes the object of the flow that came in at this port and queue, and LF.
 pub(crate) fn write_object(
     text: &mut String,
@@ -37,23 +27,39 @@ pub(crate) fn write_object(
     queue: u8,
     flow: &FlowReport,
 ) -> Result<(), Refusal>
+    requires port { port < PORTS }
     ensures object { OnOk result (string_bytes text.new ≡ string_bytes text.old ++ flow_object port queue flow.now) }
     ensures refused { IfErr result (λ e. e ≡ Memory) }
 {
-    write_offered(text, port, queue, flow)?;
+    let input = PortQueue { port, queue };
+    write_ends(text, input, peer(input))?;
+    write_offered(text, flow)?;
     write_driven(text, flow)?;
     write_directions(text, flow)?;
     write_ended(text, flow)
 }
 
-/// Writes the number of frames offered to a flow, and their fate at its receive ring.
-fn write_offered(text: &mut String, port: u8, queue: u8, flow: &FlowReport) -> Result<(), Refusal>
-    ensures members { OnOk result (string_bytes text.new ≡ string_bytes text.old ++ offered_members port queue flow.now) }
+/// Begins an object with the ends of a flow: where its frames come in, and where they leave.
+fn write_ends(text: &mut String, input: PortQueue, output: PortQueue) -> Result<(), Refusal>
+    ensures members { OnOk result (string_bytes text.new ≡ string_bytes text.old ++ end_members input output) }
     ensures refused { IfErr result (λ e. e ≡ Memory) }
 {
     write!(
         text,
-        "{{\"port\":{port},\"queue\":{queue},\"offered\":{},\"stored\":{},\"dropped\":{},\"oversize\":{}",
+        "{{\"port\":{},\"queue\":{},\"rx_port\":{},\"rx_queue\":{},\"tx_port\":{},\"tx_queue\":{}",
+        input.port, input.queue, input.port, input.queue, output.port, output.queue,
+    )?;
+    Ok(())
+}
+
+/// Writes the number of frames offered to a flow, and their fate at its receive ring.
+fn write_offered(text: &mut String, flow: &FlowReport) -> Result<(), Refusal>
+    ensures members { OnOk result (string_bytes text.new ≡ string_bytes text.old ++ offered_members flow.now) }
+    ensures refused { IfErr result (λ e. e ≡ Memory) }
+{
+    write!(
+        text,
+        ",\"offered\":{},\"stored\":{},\"dropped\":{},\"oversize\":{}",
         flow.offered, flow.stored, flow.dropped, flow.oversize,
     )?;
     Ok(())
@@ -81,8 +87,8 @@ fn write_directions(text: &mut String, flow: &FlowReport) -> Result<(), Refusal>
     let (packets, bytes) = (flow.wire.len(), bytes_of(&flow.wire));
     write!(
         text,
-        ",\"rx_packets\":{},\"rx_dropped\":{},\"tx_packets\":{packets},\"tx_bytes\":{bytes}",
-        flow.stored, flow.dropped,
+        ",\"rx_packets\":{},\"rx_bytes\":{},\"rx_dropped\":{},\"tx_packets\":{packets},\"tx_bytes\":{bytes}",
+        flow.stored, flow.stored_bytes, flow.dropped,
     )?;
     Ok(())
 }
@@ -94,5 +100,58 @@ fn write_ended(text: &mut String, flow: &FlowReport) -> Result<(), Refusal>
 {
     let word = word_of(flow.ended);
     writeln!(text, ",\"ended\":\"{word}\"}}")?;
+    Ok(())
+}
+
+/// Writes an object for each port with the sums of its flows, if `json` is set.
+pub(crate) fn write_ports(
+    text: &mut String,
+    json: bool,
+    from_0: &[FlowReport],
+    from_1: &[FlowReport],
+) -> Result<(), Refusal>
+    ensures objects { OnOk result (string_bytes text.new ≡ string_bytes text.old ++ port_objects json from_0.now from_1.now) }
+    ensures refused { IfErr result (λ e. e ≡ Memory) }
+{
+    if !json {
+        return Ok(());
+    }
+    let (to_0, to_1) = (leaving(0, from_0, from_1), leaving(1, from_0, from_1));
+    write_port(text, 0, PortSums::of(from_0, to_0))?;
+    write_port(text, 1, PortSums::of(from_1, to_1))
+}
+
+/// Writes the object of a port, and LF.
+fn write_port(text: &mut String, port: u8, sums: PortSums) -> Result<(), Refusal>
+    ensures object { OnOk result (string_bytes text.new ≡ string_bytes text.old ++ port_object port sums) }
+    ensures refused { IfErr result (λ e. e ≡ Memory) }
+{
+    write_received(text, port, sums)?;
+    write_sent(text, sums)
+}
+
+/// Begins the object of a port with what came in.
+fn write_received(text: &mut String, port: u8, sums: PortSums) -> Result<(), Refusal>
+    ensures members { OnOk result (string_bytes text.new ≡ string_bytes text.old ++ received_members port sums) }
+    ensures refused { IfErr result (λ e. e ≡ Memory) }
+{
+    write!(
+        text,
+        "{{\"port\":{port},\"rx_packets\":{},\"rx_bytes\":{},\"rx_dropped\":{}",
+        sums.rx_packets, sums.rx_bytes, sums.rx_dropped,
+    )?;
+    Ok(())
+}
+
+/// Ends the object of a port with what left it, and LF.
+fn write_sent(text: &mut String, sums: PortSums) -> Result<(), Refusal>
+    ensures members { OnOk result (string_bytes text.new ≡ string_bytes text.old ++ sent_members sums) }
+    ensures refused { IfErr result (λ e. e ≡ Memory) }
+{
+    writeln!(
+        text,
+        ",\"tx_packets\":{},\"tx_bytes\":{},\"tx_dropped\":{}}}",
+        sums.tx_packets, sums.tx_bytes, sums.tx_dropped,
+    )?;
     Ok(())
 }

@@ -7,7 +7,8 @@ ghost use Rattle.wire_script.specs.Frame.{frame_of};
 ghost use Rattle.wire_script.specs.Script.{text_for};
 ghost use Rattle.forward_io.specs.Text.{driven_words, ending_words, flow_line, flow_text, flow_texts, offered_words, report_text, wires_from, wires_text};
 
-use crate::objects::{word_of, write_object};
+use crate::objects::{word_of, write_object, write_ports};
+use crate::outputs::leaving;
 use controller::Wire;
 use forwarding::FlowReport;
 use requests::{Printing, Refusal};
@@ -99,8 +100,8 @@ fn write_both(
     if quiet {
         return Ok(());
     }
-    write_wires(alloc, text, 0, from_1)?;
-    write_wires(alloc, text, 1, from_0)
+    write_wires(alloc, text, 0, leaving(0, from_0, from_1))?;
+    write_wires(alloc, text, 1, leaving(1, from_0, from_1))
 }
 
 /// Writes the line of the flow that came in at this port and queue.
@@ -157,6 +158,7 @@ fn write_counts(
     queue: u8,
     flow: &FlowReport,
 ) -> Result<(), Refusal>
+    requires port { port < PORTS }
     ensures counts { OnOk result (string_bytes text.new ≡ string_bytes text.old ++ flow_text json port queue flow.now) }
     ensures refused { IfErr result (λ e. e ≡ Memory) }
 {
@@ -169,6 +171,7 @@ fn write_counts(
 
 /// Writes the objects or the lines of the flows that came in at a port.
 fn write_flows(text: &mut String, json: bool, port: u8, flows: &[FlowReport]) -> Result<(), Refusal>
+    requires port { port < PORTS }
     requires queues { length flows.now ≤ MOST_PAIRS }
     ensures lines { OnOk result (string_bytes text.new ≡ string_bytes text.old ++ flow_texts json port 0 flows.now) }
     ensures refused { IfErr result (λ e. e ≡ Memory) }
@@ -183,7 +186,8 @@ fn write_flows(text: &mut String, json: bool, port: u8, flows: &[FlowReport]) ->
 
 /// Returns the text of a report with `pairs` queue pairs at each port. It begins with the wires, port 0's first and
 /// queues ascending, unless `printing.quiet` is set. A line or an object for each flow follows, those that came in at
-/// port 0 first. Frames that come in at one port leave at the other.
+/// port 0 first, and with objects also one for each port, with the sums of its flows. Frames that come in at one port leave
+/// at the other.
 ///
 /// The text is allocated once, and frames are printed without an intermediate copy. Returns `Memory` if that fails.
 pub fn text_of(
@@ -202,5 +206,6 @@ pub fn text_of(
     write_both(alloc, &mut text, printing.quiet, from_0, from_1)?;
     write_flows(&mut text, printing.json, 0, from_0)?;
     write_flows(&mut text, printing.json, 1, from_1)?;
+    write_ports(&mut text, printing.json, from_0, from_1)?;
     Ok(text)
 }

@@ -1,5 +1,7 @@
 -- The frames of a flow in a script.
-use Rattle.std.specs.Prelude.{ℕ, ◌+◌, ◌*◌, ◌==◌, List, [], ◌∷◌, cond}
+use Rattle.std.specs.Prelude.{ℕ, ◌+◌, ◌*◌, ◌==◌, ◌&&◌, nat_lt, Option, None, if◌then◌else◌, List, [], ◌∷◌, cond, slice_get}
+use Rattle.limits.specs.declared.profile.TheConstants.{PORTS}
+use Rattle.forwarding.specs.declared.report.FlowReport.{FlowReport}
 use Rattle.ring_model.specs.shared.Frames.{Bytes}
 use Rattle.wire_script.specs.Frame.{Frame}
 
@@ -20,3 +22,7 @@ places_of pairs flow script = places_from pairs flow 0 script
 abbrev pub frames_of : ℕ → ℕ → List Frame → List Bytes
 frames_of pairs flow [] = []
 frames_of pairs flow (f ∷ fs) = cond (flow_of pairs f == flow) (f.bytes ∷ frames_of pairs flow fs) (frames_of pairs flow fs)
+
+-- The report of the flow whose frames come in at this port and queue, if each port has this many queues.
+abbrev pub flow_at : ℕ → ℕ → ℕ → List FlowReport → Option FlowReport
+flow_at pairs port queue flows = if nat_lt port PORTS && nat_lt queue pairs then slice_get flows (port * pairs + queue) else None

@@ -6,16 +6,19 @@
 //! [`drive`] is a driver's turn for one flow: it takes a batch of packets, touches each of them, and posts the packets
 //! that wait. It passes a [`Gate`] before each call that makes steps.
 //!
-//! A [`FlowReport`] has the counts of a flow that ended, and the frames that it sent.
+//! A [`FlowReport`] has the counts of a flow that ended, and the frames that it sent. [`peer`] says where the frames of a
+//! flow leave.
 //!
 //! Nothing here allocates or starts a thread, and `drive` waits for nobody.
 #![tactic(auto)]
 
 mod packets;
+mod ports;
 mod report;
 mod turning;
 
 pub use packets::touch;
+pub use ports::{PortQueue, peer};
 pub use refusals::ForwardError;
 pub use report::{Ended, FlowReport};
 pub use teams::{Event, Flow, Gate, Open, Progress, Who, admit};

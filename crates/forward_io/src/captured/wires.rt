@@ -9,6 +9,7 @@ ghost use Rattle.limits.specs.declared.profile.TheConstants.{MOST_PAIRS, MOST_SC
 ghost use Rattle.wire_script.specs.Frame.{frame_of};
 ghost use Rattle.forward_io.specs.Wires.{IsUncaptured, port_capture};
 
+use crate::outputs::leaving;
 use capture::{CaptureError, CaptureRecord, write_header, write_record};
 use controller::Wire;
 use forwarding::FlowReport;
@@ -25,7 +26,7 @@ const HEADER: usize = 24;
 const RECORD_HEADER: usize = 16;
 
 /// Returns the capture of the frames that left a port, 0 or 1, from a report with `pairs` queue pairs at each port. It
-/// has the wires of the flows that came in at the other port, queues ascending; frame k, counted from 0, has a
+/// has the wires of the flows that leave there, queues ascending; frame k, counted from 0, has a
 /// timestamp of k microseconds. It is allocated once.
 ///
 /// Returns `Memory`, or `Capture` if a frame's length is not 14 to 15,000 bytes or there are more than
@@ -43,11 +44,7 @@ pub fn wire_capture(
     ensures refused { IfErr result (λ e. IsUncaptured e) }
 {
     let (from_0, from_1) = flows.split_at(pairs);
-    if port == 0 {
-        capture_of_flows(alloc, 0, from_1)
-    } else {
-        capture_of_flows(alloc, 1, from_0)
-    }
+    capture_of_flows(alloc, port, leaving(port, from_0, from_1))
 }
 
 /// Returns the capture of the wires of flows that leave this port.

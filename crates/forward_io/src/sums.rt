@@ -1,0 +1,78 @@
+//! The sums of a port's flows.
+ghost use Rattle.std.specs.Prelude.{◌≡◌, length, sum_by};
+ghost use Rattle.forward_io.specs.Objects.{sums_of};
+ghost use Rattle.forward_io.specs.Sums.{with_came, with_left};
+
+use controller::Wire;
+use forwarding::FlowReport;
+
+/// The frames and bytes that came in at a port, and those that left it. A sum that exceeds `u64::MAX` is that number.
+#[derive(Clone, Copy)]
+pub(crate) struct PortSums {
+    pub rx_packets: u64,
+    pub rx_bytes: u64,
+    pub rx_dropped: u64,
+    pub tx_packets: u64,
+    pub tx_bytes: u64,
+    pub tx_dropped: u64,
+}
+
+impl PortSums {
+    /// The sums of the flows that came in at a port, and of those that left it.
+    pub(crate) fn of(came: &[FlowReport], left: &[FlowReport]) -> PortSums
+        ensures { result ≡ sums_of came.now left.now }
+    {
+        let mut sums = PortSums {
+            rx_packets: 0,
+            rx_bytes: 0,
+            rx_dropped: 0,
+            tx_packets: 0,
+            tx_bytes: 0,
+            tx_dropped: 0,
+        };
+        for flow in came {
+            sums = sums.with_came(flow);
+        }
+        for flow in left {
+            sums = sums.with_left(flow);
+        }
+        sums
+    }
+
+    /// These sums plus the counts of a flow that came in.
+    fn with_came(self, flow: &FlowReport) -> PortSums
+        ensures { result ≡ with_came self flow.now }
+    {
+        PortSums {
+            rx_packets: self.rx_packets.saturating_add(flow.stored),
+            rx_bytes: self.rx_bytes.saturating_add(flow.stored_bytes),
+            rx_dropped: self.rx_dropped.saturating_add(flow.dropped),
+            ..self
+        }
+    }
+
+    /// These sums plus the counts of a flow that left.
+    fn with_left(self, flow: &FlowReport) -> PortSums
+        ensures { result ≡ with_left self flow.now }
+    {
+        let (packets, bytes) = (flow.wire.len() as u64, bytes_of(&flow.wire) as u64);
+        PortSums {
+            tx_packets: self.tx_packets.saturating_add(packets),
+            tx_bytes: self.tx_bytes.saturating_add(bytes),
+            tx_dropped: self.tx_dropped.saturating_add(flow.tx_dropped),
+            ..self
+        }
+    }
+}
+
+/// Number of bytes on the wire. They are all in memory, so the sum cannot overflow.
+pub(crate) fn bytes_of(wire: &Wire) -> usize
+    ensures { result ≡ sum_by length wire.now }
+{
+    let (_, _most) = wire.capacity();
+    let mut bytes = 0usize;
+    for frame in wire.iter() {
+        bytes += frame.len();
+    }
+    bytes
+}
