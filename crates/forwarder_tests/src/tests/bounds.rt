@@ -243,3 +243,39 @@ fn refusals_have_a_number_and_a_text(rt: HostRuntime) {
         reads(&rt, rt.alloc(), row.0, row.1);
     }
 }
+
+/// A configuration in which no two numbers are the same.
+const DISTINCT: Config = Config {
+    pairs: 2,
+    ring: 64,
+    batch: 7,
+    buffers: 4_000,
+    bsize: 1_024,
+    rs_every: 5,
+    drop_en: true,
+    retry: false,
+    workers: 3,
+    turns: 9,
+    ..Config::DEFAULT
+};
+
+#[test]
+fn debug_texts_name_each_number(rt: HostRuntime) {
+    let text = format!(in rt.alloc(); "{DISTINCT:?}").expect(&rt, "a text");
+    same(
+        &rt,
+        text.as_str(),
+        "Config { pairs: 2, ring: 64, batch: 7, buffers: 4000, bsize: 1024, rs_every: 5, \
+         drop_en: true, retry: false, workers: 3, turns: 9, completion: Status }",
+    );
+    let script = script_of(&rt, rt.alloc(), TEN);
+    let config = Config::DEFAULT;
+    let report = forward(&rt, rt.alloc(), &script, &config, &Open).expect(&rt, "a report");
+    let text = format!(in rt.alloc(); "{:?}", report.flow(1, 0)).expect(&rt, "a text");
+    same(
+        &rt,
+        text.as_str(),
+        "Some(FlowReport { offered: 10, stored: 10, stored_bytes: 15000, dropped: 0, oversize: 0, \
+         taken: 10, posted: 10, tx_dropped: 0, wire: 10, left: 0, ended: Drained })",
+    );
+}

@@ -1,8 +1,9 @@
 //! Flows that are cut after their turns.
 
-use crate::tests::bursts::{FORTY, FORTY_COUNTS, script_of};
+use crate::tests::bursts::{Burst, FORTY, FORTY_COUNTS, script_of};
 use crate::tests::configs::SHORT;
-use crate::tests::counted::{carries, comes_to};
+use crate::tests::counted::{carries, comes_to, counts_of};
+use crate::tests::gates::{Missed, Turns};
 use crate::tests::wanted::{holds, same};
 use flows::{Ended, FlowReport};
 use forwarder::{Config, forward};
@@ -40,7 +41,7 @@ fn is_relayed(flow: &FlowReport, script: &Script, retry: bool) -> bool {
     }
 }
 
-/// Whether flow 1 is cut, with up to 7 frames taken a turn, and all flows add up.
+/// Whether flow 1 is cut after exactly these turns, with up to 7 frames taken a turn, and all flows add up.
 fn is_cut<R: Threads + Wait + Sync + Abort>(
     rt: &R,
     alloc: Global,
@@ -53,12 +54,13 @@ fn is_cut<R: Threads + Wait + Sync + Abort>(
         retry,
         ..SHORT
     };
-    let report = forward(rt, alloc, script, &config, &Open).expect(rt, "a report");
-    let Some(flow) = report.flows.get(1) else {
+    let gate = Turns::new();
+    let report = forward(rt, alloc, script, &config, &gate).expect(rt, "a report");
+    let Some(flow) = report.flow(0, 1) else {
         return false;
     };
     let few = flow.taken <= u64::from(turns).saturating_mul(7);
-    let cut = few && flow.ended == Ended::Cut;
+    let cut = few && flow.ended == Ended::Cut && gate.made() == u64::from(turns);
     cut && is_relayed(flow, script, retry) && all_add_up(&report.flows)
 }
 
@@ -99,4 +101,31 @@ fn with_turns_enough_no_flow_is_cut(rt: HostRuntime) {
     for turns in [0, 1_000_000_000] {
         holds(&rt, none_is_cut(&rt, rt.alloc(), &script, turns));
     }
+}
+
+/// Frames of 5,000 bytes, which need 5 buffers filled to 1,024 bytes.
+const LONG: &[Burst] = &[Burst {
+    port: 0,
+    queue: 0,
+    len: 5_000,
+    first: 0,
+    count: 10,
+}];
+
+// A ring of 8 has room for one of them. The driver's only turn finds nothing.
+#[test]
+fn what_is_left_is_counted_in_segments(rt: HostRuntime) {
+    let script = script_of(&rt, rt.alloc(), LONG);
+    let config = Config {
+        ring: 8,
+        bsize: 1_024,
+        turns: 1,
+        ..Config::DEFAULT
+    };
+    let gate = Missed::new();
+    let report = forward(&rt, rt.alloc(), &script, &config, &gate).expect(&rt, "a report");
+    let flow = report.flow(0, 0).expect(&rt, "a flow");
+    same(&rt, counts_of(flow), [1, 1, 0, 0, 0, 0, 0, 0, 5]);
+    same(&rt, (flow.stored_bytes, flow.ended), (5_000, Ended::Cut));
+    holds(&rt, gate.was_in_time() && report.flow(1, 1).is_none());
 }

@@ -339,3 +339,150 @@ impl Gate for Midway {
         true
     }
 }
+
+/// Counts the turns in which flow 1's driver came to its transmit batch.
+#[derive(Drop)]
+pub(crate) struct Turns {
+    made: AtomicU64,
+}
+
+impl Turns {
+    pub(crate) fn new() -> Turns {
+        Turns {
+            made: AtomicU64::new(0),
+        }
+    }
+
+    pub(crate) fn made(&self) -> u64 {
+        self.made.load(Ordering::SeqCst)
+    }
+}
+
+impl Gate for Turns {
+    ghost use Rattle.std.specs.Prelude.{◌≡◌, true};
+
+    ghost answers = { λ _ _ _ b. b ≡ true };
+
+    fn pass(&self, who: Who, event: Event) -> bool {
+        if let (Who::Driver(1), Event::TxBatch) = (who, event) {
+            self.made.fetch_add(1, Ordering::SeqCst);
+        }
+        true
+    }
+}
+
+/// Flow 0's first offer waits until its driver found nothing, and the driver then waits until that offer was made.
+#[derive(Drop)]
+pub(crate) struct Missed {
+    batch: AtomicBool,
+    offer: AtomicBool,
+    over: AtomicBool,
+    late: AtomicBool,
+}
+
+impl Missed {
+    pub(crate) fn new() -> Missed {
+        Missed {
+            batch: AtomicBool::new(false),
+            offer: AtomicBool::new(false),
+            over: AtomicBool::new(false),
+            late: AtomicBool::new(false),
+        }
+    }
+
+    /// Whether each waited within the limit.
+    pub(crate) fn was_in_time(&self) -> bool {
+        self.over.load(Ordering::SeqCst) && !self.late.load(Ordering::SeqCst)
+    }
+
+    fn wait(&self, flag: &AtomicBool) {
+        if !wait_for(flag) {
+            self.late.store(true, Ordering::SeqCst);
+        }
+    }
+}
+
+impl Gate for Missed {
+    ghost use Rattle.std.specs.Prelude.{◌≡◌, true};
+
+    ghost answers = { λ _ _ _ b. b ≡ true };
+
+    fn pass(&self, who: Who, event: Event) -> bool {
+        match (who, event) {
+            (Who::Driver(0), Event::TxBatch) => {
+                self.batch.store(true, Ordering::SeqCst);
+                self.wait(&self.over);
+            }
+            (Who::Controller(0), Event::Offer) => {
+                self.wait(&self.batch);
+                self.offer.store(true, Ordering::SeqCst);
+            }
+            (Who::Controller(0), Event::TxTurn) => {
+                if self.offer.load(Ordering::SeqCst) {
+                    self.over.store(true, Ordering::SeqCst);
+                }
+            }
+            _ => {}
+        }
+        true
+    }
+}
+
+/// Refuses flow 0's driver while the controllers' worker waits at flow 0's first offer. That worker goes on once the stop
+/// word has surely been set, and its passes are counted from then on.
+#[derive(Drop)]
+pub(crate) struct LateStop {
+    waits: AtomicBool,
+    refused: AtomicBool,
+    counts: AtomicBool,
+    passes: AtomicU64,
+}
+
+impl LateStop {
+    pub(crate) fn new() -> LateStop {
+        LateStop {
+            waits: AtomicBool::new(false),
+            refused: AtomicBool::new(false),
+            counts: AtomicBool::new(false),
+            passes: AtomicU64::new(0),
+        }
+    }
+
+    /// The passes after the stop, if there was one.
+    pub(crate) fn passes(&self) -> Option<u64> {
+        if self.counts.load(Ordering::SeqCst) {
+            Some(self.passes.load(Ordering::SeqCst))
+        } else {
+            None
+        }
+    }
+}
+
+impl Gate for LateStop {
+    ghost use Rattle.std.specs.Prelude.{◌≡◌};
+
+    ghost answers = { λ _ _ _ b. b ≡ b };
+
+    fn pass(&self, who: Who, event: Event) -> bool {
+        if self.counts.load(Ordering::SeqCst) {
+            self.passes.fetch_add(1, Ordering::SeqCst);
+            return true;
+        }
+        match (who, event) {
+            (Who::Driver(0), Event::RxBatch) if self.waits.load(Ordering::SeqCst) => {
+                self.refused.store(true, Ordering::SeqCst);
+                false
+            }
+            (Who::Controller(0), Event::Offer) => {
+                self.waits.store(true, Ordering::SeqCst);
+                wait_for(&self.refused);
+                for _ in 0..LIMIT / 10 {
+                    thread::yield_now();
+                }
+                self.counts.store(true, Ordering::SeqCst);
+                true
+            }
+            _ => true,
+        }
+    }
+}

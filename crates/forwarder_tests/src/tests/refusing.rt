@@ -1,9 +1,10 @@
 //! Gates that refuse.
 
-use crate::tests::bursts::{FORTY, FRAME};
+use crate::tests::bursts::{FORTY, FRAME, script_of};
 use crate::tests::configs::SHORT;
-use crate::tests::gates::{Leaving, Shuts};
+use crate::tests::gates::{LateStop, Leaving, Shuts};
 use crate::tests::trials::{Asked, ONCE, Trial, each_is_so};
+use crate::tests::wanted::{holds, same};
 use forwarder::{Config, forward};
 use forwarding::ForwardError;
 use std::process::Abort;
@@ -44,4 +45,19 @@ pub(crate) fn is_left<R: Threads + Wait + Sync + Abort>(rt: &R, trial: Trial<'_>
 #[test]
 fn all_workers_are_joined_before_a_refusal_is_answered(rt: HostRuntime) {
     each_is_so(&rt, rt.alloc(), Asked::IsLeft, &[FRAME], ONCE);
+}
+
+// The turn that was under way passes the gate of its transmit queue. No other of the worker's 16 flows has a turn.
+#[test]
+fn a_worker_stops_before_its_next_flow(rt: HostRuntime) {
+    let script = script_of(&rt, rt.alloc(), &[FRAME]);
+    let config = Config {
+        pairs: 8,
+        ..Config::DEFAULT
+    };
+    let gate = LateStop::new();
+    let refusal = forward(&rt, rt.alloc(), &script, &config, &gate).err();
+    same(&rt, refusal, Some(ForwardError::Gate));
+    let passes = gate.passes().expect(&rt, "a stop");
+    holds(&rt, passes <= 1);
 }
