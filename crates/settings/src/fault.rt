@@ -34,8 +34,8 @@ pub enum ConfigFault {
 }
 
 impl Config {
-    /// Returns the first limit that this configuration violates with this script, in the order of [`ConfigFault`], or
-    /// `None` if [`check`](Config::check) accepts it.
+    /// Returns a limit that this configuration violates with this script, or `None` if [`check`](Config::check) accepts
+    /// it.
     pub fn fault(&self, script: &Script) -> Option<ConfigFault>
         ensures none { (result ≡ None) ↔ FitsIn script.now self.now }
         ensures fault { IfSome result (λ f. IsFault script.now self.now f) }
@@ -46,7 +46,7 @@ impl Config {
         }
     }
 
-    /// Returns the first limit that a number of this configuration violates, or `None` if it is lawful.
+    /// Returns a limit that a number of this configuration violates, or `None` if it is lawful.
     pub fn number_fault(&self) -> Option<ConfigFault>
         ensures none { (result ≡ None) ↔ IsLawful self.now }
         ensures fault { (script : _) → IfSome result (λ f. IsFault script self.now f) }
@@ -105,7 +105,7 @@ impl Config {
         }
     }
 
-    /// The place of the first frame whose queue does not exist.
+    /// The place of a frame whose queue does not exist.
     fn queue_fault(&self, frames: &[WireFrame]) -> Option<ConfigFault>
         ensures none { (result ≡ None) ↔ HasQueues self.now frames.now }
         ensures fault { IfSome result (λ f. IsFault frames.now self.now f) }
