@@ -13,7 +13,7 @@ use Rattle.command_line.specs.OptionWords.{with_rules}
 use Rattle.command_line.specs.Params.{rule_for}
 use Rattle.command_line.specs.declared.arguments.Param.{Param}
 use Rattle.command_line.specs.declared.arguments.Param.TheVariants.{Choice}
-use Rattle.command_line.specs.declared.building.Entry.{Entry}
+use Rattle.command_line.specs.declared.building.CommandEntry.{CommandEntry}
 
 -- ---- a command
 
@@ -49,13 +49,13 @@ begun start (Ok p) is = record { app_is = is }
 begun start (Err e) is = tt
 
 -- with one more, of a list of entries
-pub one-entry : {E F G : Type 0} → (start : App) (entries : List Entry) (k : ℕ) (d : Entry) (program : Result Command E) (command : Result Command F) (next : Result Command G)
+pub one-entry : {E F G : Type 0} → (start : App) (entries : List CommandEntry) (k : ℕ) (d : CommandEntry) (program : Result Command E) (command : Result Command F) (next : Result Command G)
     → k < length entries → IfOk program (IsJoined start (take k entries)) → IfOk command (IsNew (entry_app (get_or entries k d))) → IfOk next (Joins program command)
     → IfOk next (IsJoined start (take (k + 1) entries))
 one-entry start entries k d (Ok p) (Ok c) (Ok n) low before is joins = record {
   app_is = joins is.local
       ∙ (ap₂ with_subcommand before.app_is (ap (λ (app : App). app.top) is.app_is)
-      ∙ (sym (fold_push (λ (app : App) (entry : Entry). with_subcommand app (entry_app entry).top) start (take k entries) (get_or entries k d))
+      ∙ (sym (fold_push (λ (app : App) (entry : CommandEntry). with_subcommand app (entry_app entry).top) start (take k entries) (get_or entries k d))
       ∙ sym (ap (with_entries start) (take_more entries k d low))));
 }
 one-entry start entries k d program command (Err e) low before is joins = tt
@@ -63,20 +63,20 @@ one-entry start entries k d (Err e) command (Ok n) low before is joins = absurd 
 one-entry start entries k d (Ok p) (Err e) (Ok n) low before is joins = absurd joins
 
 -- at last with all of them
-pub all-entries : {E : Type 0} → (start : App) (entries : List Entry) (k : ℕ) (program : Result Command E) → length entries ≤ k → IfOk program (IsJoined start (take k entries))
+pub all-entries : {E : Type 0} → (start : App) (entries : List CommandEntry) (k : ℕ) (program : Result Command E) → length entries ≤ k → IfOk program (IsJoined start (take k entries))
     → IfOk program (IsJoined start entries)
-all-entries start entries k program end before = subst (λ (es : List Entry). IfOk program (IsJoined start es)) (take_all k entries end) before
+all-entries start entries k program end before = subst (λ (es : List CommandEntry). IfOk program (IsJoined start es)) (take_all k entries end) before
 
 -- the choices of an argument, and of the kth of all commands
 abbrev choices_of : Param → Choices
 choices_of (Choice id name words help) = words
 choices_of _ = record { ref_ptr = (0, 0); now = [] }
 
-abbrev pub choices_at : ℕ → List Entry → Choices
+abbrev pub choices_at : ℕ → List CommandEntry → Choices
 choices_at k entries = get_or (map choices_of (flat_map (λ entry. entry.params.now) entries)) k (record { ref_ptr = (0, 0); now = [] })
 
 -- with its first commands, wherever the choices of `decode` lie
-pub beginning_is : {E : Type 0} → (entries : List Entry) (program : Result Command E) → let rings = choices_at 2 entries in let formats = choices_at 3 entries in
+pub beginning_is : {E : Type 0} → (entries : List CommandEntry) (program : Result Command E) → let rings = choices_at 2 entries in let formats = choices_at 3 entries in
     with_entries bare_app entries ≡ beginning_app rings formats → map (λ word. word.now) rings.now ≡ codes "rx" ∷ codes "tx" ∷ []
     → map (λ word. word.now) formats.now ≡ codes "read" ∷ codes "back" ∷ [] → IfOk program (IsJoined bare_app entries) → IfOk program (λ p. IsBeginning (app_of p))
 beginning_is entries (Ok p) same rings_are formats_are is = record {
@@ -93,7 +93,7 @@ abbrev choices : List Text → Choices
 choices words = record { ref_ptr = (0, 0); now = map (λ (word : Text). record { ref_ptr = (0, 0); now = word }) words }
 
 -- with all its commands; of a beginning that failed nothing is asked
-pub program_is : {E F : Type 0} → (entries : List Entry) (begun : Result Command F) (program : Result Command E)
+pub program_is : {E F : Type 0} → (entries : List CommandEntry) (begun : Result Command F) (program : Result Command E)
     → ((rings formats : Choices) → with_entries (beginning_app rings formats) entries ≡ program_app rings formats)
     → IfOk begun (λ c. IsBeginning (app_of c)) → ((app : App) → IfOk begun (λ c. app_of c ≡ app) → IfOk program (IsJoined app entries))
     → IfOk program (λ p. IsProgram (app_of p))

@@ -5,17 +5,17 @@ use Rattle.clap.specs.declared.builder.command.Command.{Command}
 use Rattle.clap.specs.declared.builder.command.Command.TheViews.{out-Command}
 use Rattle.command_line.specs.OptionWords.{with_rules}
 use Rattle.command_line.specs.Params.{rule_for}
-use Rattle.command_line.specs.declared.building.Entry.{Entry}
+use Rattle.command_line.specs.declared.building.CommandEntry.{CommandEntry}
 
 -- the command of an entry
-abbrev pub entry_app : Entry → App
+abbrev pub entry_app : CommandEntry → App
 entry_app entry = with_rules entry.name.now (map rule_for entry.params.now)
 
 -- a program with the commands of entries added
-abbrev pub with_entries : App → List Entry → App
+abbrev pub with_entries : App → List CommandEntry → App
 with_entries start entries = fold (λ app entry. with_subcommand app (entry_app entry).top) start entries
 
-pub record IsJoined (start : App) (entries : List Entry) (command : Command) : Type 0 where
+pub record IsJoined (start : App) (entries : List CommandEntry) (command : Command) : Type 0 where
   pub app_is : app_of command ≡ with_entries start entries
 
 -- a command is this one, and has no global option

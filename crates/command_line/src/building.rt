@@ -9,7 +9,7 @@ use clap::{Arg, Command};
 use std::alloc::{AllocError, Global};
 
 /// A command of the program: its name, its help and its parameters.
-pub(crate) struct Entry<'a> {
+pub(crate) struct CommandEntry<'a> {
     pub(crate) name: &'a str,
     pub(crate) about: &'a str,
     pub(crate) examples: &'a str,
@@ -17,7 +17,7 @@ pub(crate) struct Entry<'a> {
 }
 
 /// Builds the command of an entry.
-pub(crate) fn made<'a>(alloc: Global, entry: &Entry<'a>) -> Result<Command<'a>, AllocError>
+pub(crate) fn made<'a>(alloc: Global, entry: &CommandEntry<'a>) -> Result<Command<'a>, AllocError>
     ensures { IfOk result (IsNew (entry_app entry.now)) }
 {
     let mut command = Ok(

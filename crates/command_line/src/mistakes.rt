@@ -4,7 +4,7 @@ ghost use Rattle.clap.specs.Words.{kind_of};
 ghost use Rattle.clap.specs.declared.error.kind.ErrorKind.TheVariants.{OutOfMemory};
 
 use crate::arguments::Param;
-use crate::building::{Entry, made};
+use crate::building::{CommandEntry, made};
 use crate::program::{FIRST, SECOND, program};
 use clap::error::ErrorKind;
 use clap::{Command, Error};
@@ -47,7 +47,7 @@ fn named<'a>(alloc: Global, name: &str) -> Result<Command<'a>, AllocError> {
 }
 
 /// Returns the entry of the command with this name.
-fn entry_of(name: &str) -> Option<&'static Entry<'static>> {
+fn entry_of(name: &str) -> Option<&'static CommandEntry<'static>> {
     match first_entry(name) {
         Some(entry) => Some(entry),
         None => second_entry(name),
@@ -55,17 +55,20 @@ fn entry_of(name: &str) -> Option<&'static Entry<'static>> {
 }
 
 /// Returns the entry, if it is in the first list.
-fn first_entry(name: &str) -> Option<&'static Entry<'static>> {
+fn first_entry(name: &str) -> Option<&'static CommandEntry<'static>> {
     entry_in(FIRST, name)
 }
 
 /// Returns the entry, if it is in the second list.
-fn second_entry(name: &str) -> Option<&'static Entry<'static>> {
+fn second_entry(name: &str) -> Option<&'static CommandEntry<'static>> {
     entry_in(SECOND, name)
 }
 
 /// Returns the entry with this name among these.
-fn entry_in(entries: &'static [Entry<'static>], name: &str) -> Option<&'static Entry<'static>> {
+fn entry_in(
+    entries: &'static [CommandEntry<'static>],
+    name: &str,
+) -> Option<&'static CommandEntry<'static>> {
     for entry in entries {
         if entry.name == name {
             return Some(entry);
@@ -128,7 +131,7 @@ fn ranged<'t>(name: &str, text: &'t str) -> Option<(&'t str, &'t str, &'static s
 }
 
 /// Returns the help of an option with a number.
-fn help_of(entry: &'static Entry<'static>, option: &str) -> Option<&'static str> {
+fn help_of(entry: &'static CommandEntry<'static>, option: &str) -> Option<&'static str> {
     for param in entry.params {
         match *param {
             Param::Number { id, help, .. } | Param::Said { id, help } | Param::Share { id, help } =>

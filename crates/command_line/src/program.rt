@@ -5,7 +5,7 @@ ghost use Rattle.command_line.specs.Building.{IsJoined};
 ghost use Rattle.command_line.specs.CommandLine.{IsBeginning, IsProgram, bare_app};
 
 use crate::arguments::Param;
-use crate::building::{Entry, having, made};
+use crate::building::{CommandEntry, having, made};
 use clap::Command;
 use std::alloc::{AllocError, Global};
 
@@ -49,8 +49,8 @@ const EXPLAIN: Param = Param::Flag {
 };
 
 /// The commands, each with its parameters.
-pub(crate) const FIRST: &[Entry] = &[
-    Entry {
+pub(crate) const FIRST: &[CommandEntry] = &[
+    CommandEntry {
         name: "once",
         about: "Pass one frame through a receive ring of 8 descriptors and print it",
         examples: "Example:\n  poll82599 once 000102030405060708090a0b0c0d\n  prints 000102030405060708090a0b0c0d",
@@ -61,7 +61,7 @@ pub(crate) const FIRST: &[Entry] = &[
             EXPLAIN,
         ],
     },
-    Entry {
+    CommandEntry {
         name: "decode",
         about: "Decode the 16 bytes of a descriptor",
         examples: "Example:\n  poll82599 decode rx back 0000000000000000030000003c000000\n  prints dd 1 eop 1 length 60",
@@ -84,7 +84,7 @@ pub(crate) const FIRST: &[Entry] = &[
             EXPLAIN,
         ],
     },
-    Entry {
+    CommandEntry {
         name: "replay",
         about: "Make the moves of a list on model queues and print the result of each. The list is read from standard input, one move per line",
         examples: "Example:\n  echo 'r0 A1 5' | poll82599 replay --ring 16\n  prints r0 A1 place 0\n  and moves 1 of 1",
@@ -121,8 +121,8 @@ pub(crate) const FIRST: &[Entry] = &[
 ];
 
 /// The commands that forward or convert frames, or print lists of moves.
-pub(crate) const SECOND: &[Entry] = &[
-    Entry {
+pub(crate) const SECOND: &[CommandEntry] = &[
+    CommandEntry {
         name: "forward",
         about: "Forward the frames of a script between two ports, and print the frames that left and the counts of each flow. The script is read from standard input, one frame per line; with --capture, only if standard input is not a terminal and no capture",
         examples: "Examples:\n  echo '0 0 fill 14 05' | poll82599 forward\n  prints 1 0 0506050505050505050505050505\n  and flow 0 0 offered 1 stored 1 dropped 0 oversize 0 taken 1 posted 1 tx-dropped 0 wire 1 left 0 ended drained\n  and flow 1 0 offered 0 stored 0 dropped 0 oversize 0 taken 0 posted 0 tx-dropped 0 wire 0 left 0 ended drained\n\n  echo '1 0 fill 9000 00' | poll82599 forward --ring 8 --bsize 1024\n  prints flow 0 0 offered 0 stored 0 dropped 0 oversize 0 taken 0 posted 0 tx-dropped 0 wire 0 left 0 ended drained\n  and flow 1 0 offered 1 stored 0 dropped 0 oversize 1 taken 0 posted 0 tx-dropped 0 wire 0 left 0 ended drained",
@@ -212,7 +212,7 @@ pub(crate) const SECOND: &[Entry] = &[
             EXPLAIN,
         ],
     },
-    Entry {
+    CommandEntry {
         name: "from-capture",
         about: "Print the frames of a capture as lines of a script. The capture (pcap or pcapng, Ethernet) is read from standard input",
         examples: "Example:\n  poll82599 from-capture 0 3 < x.pcap | poll82599 forward --pairs 4\n  forwards the frames of x.pcap, which enter port 0, queue 3",
@@ -234,7 +234,7 @@ pub(crate) const SECOND: &[Entry] = &[
             EXPLAIN,
         ],
     },
-    Entry {
+    CommandEntry {
         name: "to-capture",
         about: "Write the frames of one port as a capture. The frames are read from standard input: a script, or the output of forward. Frame k has the time k microseconds",
         examples: "Example:\n  echo '0 0 fill 60 05' | poll82599 forward | poll82599 to-capture 1 | tcpdump -r -\n  shows what left port 1",
@@ -245,7 +245,7 @@ pub(crate) const SECOND: &[Entry] = &[
             EXPLAIN,
         ],
     },
-    Entry {
+    CommandEntry {
         name: "schedules",
         about: "Print lists of moves for testing a driver or an emulator: drawn from a seed, the same on every machine, or covering everything that one queue can do",
         examples: "Examples:\n  poll82599 schedules --seed 1 --moves 4\n  prints r0 A1 50788\n  and t0 B1 4685 14 0 0 31\n  and t0 B1 44665 17 1 1 31\n  and t0 B7\n  and # end\n\n  poll82599 schedules --cover --device-only-real\n  prints first # r0 A4 driver On controller serving: not enabled\n  and r0 A4\n  and # end\n\nWhich lists to use:\n  The covering lists (--cover) are short. Each meets one pair of a state and a move on a queue of 8, so they miss mistakes that show\n  only late in a long list. Of 14 mistakes in an emulator that was written from the documentation alone, they found 5; drawn\n  lists of the size of --recommended, without and with --head, from other seeds found 13; drawn lists without refused moves found 5.",
@@ -328,7 +328,7 @@ fn beginning<'a>(alloc: Global) -> Result<Command<'a>, AllocError>
 fn joined<'a>(
     alloc: Global,
     start: Result<Command<'a>, AllocError>,
-    entries: &[Entry<'a>],
+    entries: &[CommandEntry<'a>],
 ) -> Result<Command<'a>, AllocError>
     ensures { (app : App) → IfOk start.entry (λ c. app_of c ≡ app) → IfOk result (IsJoined app entries.now) }
 {

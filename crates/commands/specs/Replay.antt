@@ -16,8 +16,8 @@ use Rattle.limits.specs.declared.profile.TheConstants.{MOST_PAIRS}
 use Rattle.pictures.specs.Pictures.{queue_picture}
 use Rattle.pictures.specs.States.{opening_lines, state_line}
 use Rattle.ring_machine.specs.declared.registers.Registers.{Registers}
-use Rattle.ring_machine.specs.declared.registers.Side.{Side}
-use Rattle.ring_machine.specs.declared.registers.Side.TheVariants as side
+use Rattle.ring_machine.specs.declared.registers.QueueKind.{QueueKind}
+use Rattle.ring_machine.specs.declared.registers.QueueKind.TheVariants as kind
 use Rattle.ring_machine.specs.text.Moves.{IsInRange, name_of, text_of}
 use Rattle.ring_machine.specs.text.RegisterTexts.{registers_text}
 use Rattle.ring_model.specs.shared.Agreement.{bit}
@@ -82,12 +82,12 @@ registers_line None = []
 registers_line (Some r) = registers_text r ++ 10 ∷ []
 
 -- The same as members of an object.
-abbrev pub members_by : Side → ℕ → ℕ → Bool → List ℕ
-members_by side.Receive head tail enable = codes ",\"RDH\":" ++ (decimal head ++ (codes ",\"RDT\":" ++ (decimal tail ++ (codes ",\"RXDCTL.ENABLE\":" ++ decimal (bit enable)))))
-members_by side.Transmit head tail enable = codes ",\"TDH\":" ++ (decimal head ++ (codes ",\"TDT\":" ++ (decimal tail ++ (codes ",\"TXDCTL.ENABLE\":" ++ decimal (bit enable)))))
+abbrev pub members_by : QueueKind → ℕ → ℕ → Bool → List ℕ
+members_by kind.Receive head tail enable = codes ",\"RDH\":" ++ (decimal head ++ (codes ",\"RDT\":" ++ (decimal tail ++ (codes ",\"RXDCTL.ENABLE\":" ++ decimal (bit enable)))))
+members_by kind.Transmit head tail enable = codes ",\"TDH\":" ++ (decimal head ++ (codes ",\"TDT\":" ++ (decimal tail ++ (codes ",\"TXDCTL.ENABLE\":" ++ decimal (bit enable)))))
 
 abbrev pub members_of : Registers → List ℕ
-members_of r = members_by r.side r.head r.tail r.enable
+members_of r = members_by r.kind r.head r.tail r.enable
 
 abbrev pub register_members : Option Registers → List ℕ
 register_members None = []

@@ -5,7 +5,7 @@ ghost use Rattle.std.specs.String.{string_bytes};
 ghost use Rattle.commands.specs.Replay.{count_line, members_of, note_object, object_line, registers_line, told_line, words_line};
 
 use pictures::NoteMembers;
-use ring_machine::{Move, Registers, Side};
+use ring_machine::{Move, QueueKind, Registers};
 use ring_model::Note;
 use std::alloc::AllocError;
 
@@ -54,18 +54,18 @@ fn write_members(page: &mut String, registers: Registers) -> Result<(), AllocErr
     ensures { OnOk result (string_bytes page.new ≡ string_bytes page.old ++ members_of registers) }
 {
     let Registers {
-        side,
+        kind,
         head,
         tail,
         enable,
     } = registers;
     let enable = u8::from(enable);
-    match side {
-        Side::Receive => write!(
+    match kind {
+        QueueKind::Receive => write!(
             page,
             ",\"RDH\":{head},\"RDT\":{tail},\"RXDCTL.ENABLE\":{enable}"
         ),
-        Side::Transmit => write!(
+        QueueKind::Transmit => write!(
             page,
             ",\"TDH\":{head},\"TDT\":{tail},\"TXDCTL.ENABLE\":{enable}"
         ),

@@ -23,14 +23,14 @@ pub struct Served<D: Drop, C: Drop> {
 
 /// Room for the flows of one side: as they are dealt to the workers, and as they come back.
 #[derive(Drop)]
-struct Rooms<F: Drop> {
+struct FlowRooms<F: Drop> {
     hands: Vec<Vec<F>>,
     back: Vec<F>,
 }
 
-impl<F: Drop> Rooms<F> {
+impl<F: Drop> FlowRooms<F> {
     /// Room for `flows` flows and `workers` workers.
-    fn of(alloc: Global, flows: usize, workers: usize) -> Result<Rooms<F>, AllocError>
+    fn of(alloc: Global, flows: usize, workers: usize) -> Result<FlowRooms<F>, AllocError>
         ensures count { IfOk result (λ r. vec_len r.hands ≡ workers) }
         ensures empty { IfOk result (λ r. All (λ h. h.items ≡ []) r.hands.items) }
         ensures room { IfOk result (λ r. All (λ h. flows ≤ vec_capacity h) r.hands.items) }
@@ -38,7 +38,7 @@ impl<F: Drop> Rooms<F> {
     {
         let hands = empty_hands(alloc, workers, flows)?;
         let back = Vec::with_capacity(alloc, flows)?;
-        Ok(Rooms { hands, back })
+        Ok(FlowRooms { hands, back })
     }
 }
 
@@ -73,8 +73,8 @@ pub fn serve_flows<D: Flow, C: Flow, R: Threads + Wait + Sync, G: Gate + Sync>(
 {
     let (driven, served) = (drivers.len(), controllers.len());
     let (Ok(driver_rooms), Ok(controller_rooms)) = (
-        Rooms::of(alloc, driven, workers),
-        Rooms::of(alloc, served, workers),
+        FlowRooms::of(alloc, driven, workers),
+        FlowRooms::of(alloc, served, workers),
     ) else {
         return Served {
             drivers,

@@ -52,9 +52,17 @@ fn forward_hot<R: Threads + Wait + Sync>(
 {
     let workers = config.workers as usize;
     let (pool, mut pass) = Pool::new(rt, alloc, config.buffers)?;
-    let (lines, ends) = make_rings(alloc, config)?;
+    let (flow_rings, ends) = make_rings(alloc, config)?;
     let sides = make_sides(
-        rt, alloc, workload, config, frames, &lines, ends, &pool, &mut pass,
+        rt,
+        alloc,
+        workload,
+        config,
+        frames,
+        &flow_rings,
+        ends,
+        &pool,
+        &mut pass,
     )?;
     let served = serve_flows(rt, alloc, &Open, sides.drivers, sides.controllers, workers);
     Ok(is_whole(&served, workload))

@@ -48,13 +48,13 @@ fn make_side<'a, R: Wait>(
     config: &Config,
     number: usize,
     feed: Feed<'a>,
-    line: &'a FlowRings,
+    rings: &'a FlowRings,
     ends: FlowRingEnds,
     pool: &'a Pool,
     pass: PoolPass,
 ) -> FlowSides<'a>
     requires lawful { IsLawful config.now }
-    requires ends { AreEnds config.now.ring config.now.completion line.now ends }
+    requires ends { AreEnds config.now.ring config.now.completion rings.now ends }
     requires pool { IsOf pool.now pass }
     requires share { pass.hand.share ≡ 1 }
     requires none { pass.hand.held ≡ [] }
@@ -63,8 +63,8 @@ fn make_side<'a, R: Wait>(
     let most = share.min(config.ring + STASHED) as usize;
     let flow_spec = FlowSpec {
         number,
-        from: &line.from,
-        to: &line.to,
+        from: &rings.from,
+        to: &rings.to,
         pool,
         part: PoolPart {
             share: SHARE as u64,
@@ -83,7 +83,7 @@ fn make_side<'a, R: Wait>(
     );
     let controller = HotFlow::new(
         alloc,
-        (&line.from, &line.to),
+        (&rings.from, &rings.to),
         (ends.stores, ends.sends),
         feed.frames,
         feed.count,
@@ -98,26 +98,26 @@ pub(crate) fn make_sides<'a, R: Wait>(
     workload: &Workload,
     config: &Config,
     frames: &'a [Vec<u8>],
-    lines: &'a [FlowRings],
+    flow_rings: &'a [FlowRings],
     ends: Vec<FlowRingEnds>,
     pool: &'a Pool,
     pass: &mut PoolPass,
 ) -> Result<Sides<'a>>
     requires lawful { IsLawful config.now }
-    requires flows { vec_len ends ≡ length lines.now }
-    requires ends { (k : ℕ) (d : _) (e : _) → k < length lines.now → AreEnds config.now.ring config.now.completion (slice_index_or lines.now k d) (slice_index_or ends.items k e) }
+    requires flows { vec_len ends ≡ length flow_rings.now }
+    requires ends { (k : ℕ) (d : _) (e : _) → k < length flow_rings.now → AreEnds config.now.ring config.now.completion (slice_index_or flow_rings.now k d) (slice_index_or ends.items k e) }
     requires pool { IsOf pool.now pass.old }
-    requires share { length lines.now < pass.old.hand.share }
+    requires share { length flow_rings.now < pass.old.hand.share }
 {
-    let mut drivers = Vec::with_capacity(alloc, lines.len())?;
-    let mut controllers = Vec::with_capacity(alloc, lines.len())?;
+    let mut drivers = Vec::with_capacity(alloc, flow_rings.len())?;
+    let mut controllers = Vec::with_capacity(alloc, flow_rings.len())?;
     let mut number = 0;
     for own in ends {
         let count = workload.frames_of(number);
         let feed = Feed { frames, count };
         let share = pass.split(pool, SHARE);
-        let line = &lines[number];
-        let side = make_side(rt, alloc, config, number, feed, line, own, pool, share);
+        let rings = &flow_rings[number];
+        let side = make_side(rt, alloc, config, number, feed, rings, own, pool, share);
         drivers.push_reserved(side.driver);
         controllers.push_reserved(side.controller);
         number += 1;

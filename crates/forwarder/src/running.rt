@@ -51,7 +51,7 @@ pub(crate) struct Watch<'w> {
 
 /// The reports of all flows, and the pens of their cells if these are watched; or the flows that a refusal stopped.
 #[derive(Drop)]
-pub(crate) struct Ran {
+pub(crate) struct PassOutcome {
     pub flows: Vec<FlowReport>,
     pub pens: Vec<FlowPens>,
     pub stopped: Vec<Stopped>,
@@ -121,7 +121,7 @@ pub(crate) fn run_flows<R: Threads + Wait + Sync, G: Gate + Sync>(
     pool: &Pool,
     pass: &mut PoolPass,
     watch: Option<Watch<'_>>,
-) -> Result<Ran, ForwardError>
+) -> Result<PassOutcome, ForwardError>
     requires lawful { IsLawful job.config.now }
     requires ready { AreReady job.config.now job.script.now index.now rings.now ends.items }
     requires pool { IsOf pool.now pass.old }
@@ -158,7 +158,7 @@ pub(crate) fn run_flows<R: Threads + Wait + Sync, G: Gate + Sync>(
         let flows = conclude_all(rings, drivers, controllers, pool, pass, reports);
         (flows, rooms)
     };
-    Ok(Ran {
+    Ok(PassOutcome {
         flows,
         pens,
         stopped,

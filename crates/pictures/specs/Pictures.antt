@@ -8,8 +8,8 @@ use Rattle.ring_model.specs.shared.Places.{between_places, place_next}
 use Rattle.ring_model.specs.shared.Agreement.{Wrapped}
 use Rattle.ring_machine.specs.declared.moves.Move.{Move}
 use Rattle.ring_machine.specs.declared.moves.Move.TheVariants as move
-use Rattle.ring_machine.specs.declared.registers.Side.{Side}
-use Rattle.ring_machine.specs.declared.registers.Side.TheVariants.{Receive, Transmit}
+use Rattle.ring_machine.specs.declared.registers.QueueKind.{QueueKind}
+use Rattle.ring_machine.specs.declared.registers.QueueKind.TheVariants.{Receive, Transmit}
 use Rattle.ring_machine.specs.shared.Machine.{told_owner}
 use Rattle.ring_machine.specs.Queues.{QueueParts}
 
@@ -41,15 +41,15 @@ abbrev pub has_bit : ℕ → ℕ → Bool
 has_bit weight word = (word / weight) % 2 == 1
 
 -- DD, EOP and RS of a descriptor's second word, where a transmit queue's and a receive queue's have them
-abbrev pub says_done : Side → ℕ → Bool
+abbrev pub says_done : QueueKind → ℕ → Bool
 says_done Receive word = has_bit 1 word
 says_done Transmit word = has_bit 0x1_0000_0000 word
 
-abbrev pub says_eop : Side → ℕ → Bool
+abbrev pub says_eop : QueueKind → ℕ → Bool
 says_eop Receive word = has_bit 2 word
 says_eop Transmit word = has_bit 0x100_0000 word
 
-abbrev pub says_rs : Side → ℕ → Bool
+abbrev pub says_rs : QueueKind → ℕ → Bool
 says_rs Receive word = false
 says_rs Transmit word = has_bit 0x800_0000 word
 
@@ -64,10 +64,10 @@ flag_words true true false = codes "DD EOP"
 flag_words true true true = codes "DD EOP RS"
 
 -- what the descriptor at a place says. At a driver's place it may say anything
-abbrev pub word_words : Side → Owner → ℕ → List ℕ
-word_words side Driver word = codes "any"
-word_words side Ring word = flag_words (says_done side word) (says_eop side word) (says_rs side word)
-word_words side Controller word = flag_words (says_done side word) (says_eop side word) (says_rs side word)
+abbrev pub word_words : QueueKind → Owner → ℕ → List ℕ
+word_words kind Driver word = codes "any"
+word_words kind Ring word = flag_words (says_done kind word) (says_eop kind word) (says_rs kind word)
+word_words kind Controller word = flag_words (says_done kind word) (says_eop kind word) (says_rs kind word)
 
 -- a name after a tab, if this is at the place
 abbrev pub mark : ℕ → ℕ → List ℕ → List ℕ
@@ -78,13 +78,13 @@ marks w place = mark w.head place (codes "head") ++ (mark w.tail place (codes "t
     ++ (mark w.next place (codes "next") ++ (mark w.serve place (codes "use") ++ mark w.known place (codes "known")))))
 
 -- a place's line up to the names of what is there
-abbrev pub columns : Side → Wrapped ℕ → ℕ → List ℕ
-columns side w place = let owner = told_owner w place in
+abbrev pub columns : QueueKind → Wrapped ℕ → ℕ → List ℕ
+columns kind w place = let owner = told_owner w place in
     decimal place ++ (9 ∷ (number_or_dash (item_of owner (age_at w place)) ++ (9 ∷ (owner_word owner
-    ++ (9 ∷ (word_words side owner (slice_index w.words place) ++ (9 ∷ number_or_dash (slot_at w.slots place))))))))
+    ++ (9 ∷ (word_words kind owner (slice_index w.words place) ++ (9 ∷ number_or_dash (slot_at w.slots place))))))))
 
-abbrev pub line : Side → Wrapped ℕ → ℕ → List ℕ
-line side w place = columns side w place ++ (marks w place ++ 10 ∷ [])
+abbrev pub line : QueueKind → Wrapped ℕ → ℕ → List ℕ
+line kind w place = columns kind w place ++ (marks w place ++ 10 ∷ [])
 
 -- the place before this one, in a ring of n
 abbrev pub place_before : ℕ → ℕ → ℕ
@@ -104,23 +104,23 @@ abbrev pub begins_fold : Wrapped ℕ → ℕ → Bool
 begins_fold w zero = true
 begins_fold w (suc before) = is_shown w before
 
-abbrev pub place_text : Side → Wrapped ℕ → ℕ → List ℕ
-place_text side w place = if is_shown w place then line side w place else (if begins_fold w place then codes "..\n" else [])
+abbrev pub place_text : QueueKind → Wrapped ℕ → ℕ → List ℕ
+place_text kind w place = if is_shown w place then line kind w place else (if begins_fold w place then codes "..\n" else [])
 
 -- the first places, as many as given
-abbrev pub places_text : Side → Wrapped ℕ → ℕ → List ℕ
-places_text side w zero = []
-places_text side w (suc count) = places_text side w count ++ place_text side w count
+abbrev pub places_text : QueueKind → Wrapped ℕ → ℕ → List ℕ
+places_text kind w zero = []
+places_text kind w (suc count) = places_text kind w count ++ place_text kind w count
 
 abbrev pub heading : List ℕ
 heading = codes "place\titem\towner\tword\tbuffer\n"
 
-abbrev pub picture : Side → Wrapped ℕ → List ℕ
-picture side w = heading ++ places_text side w w.size
+abbrev pub picture : QueueKind → Wrapped ℕ → List ℕ
+picture kind w = heading ++ places_text kind w w.size
 
-abbrev pub picture_if_there : Side → Option (Wrapped ℕ) → List ℕ
-picture_if_there side None = []
-picture_if_there side (Some w) = picture side w
+abbrev pub picture_if_there : QueueKind → Option (Wrapped ℕ) → List ℕ
+picture_if_there kind None = []
+picture_if_there kind (Some w) = picture kind w
 
 -- of the queue that a move names, if it is there
 abbrev pub queue_picture : QueueParts → Move → List ℕ

@@ -19,8 +19,8 @@ use Rattle.ring_machine.specs.code.Obstacles.{obstacle_text, queue_obstacle}
 use Rattle.ring_machine.specs.declared.moves.Move.{Move}
 use Rattle.ring_machine.specs.declared.moves.Move.TheVariants as move
 use Rattle.ring_machine.specs.declared.obstacle.Obstacle.{Obstacle}
-use Rattle.ring_machine.specs.declared.registers.Side.{Side}
-use Rattle.ring_machine.specs.declared.registers.Side.TheVariants.{Receive, Transmit}
+use Rattle.ring_machine.specs.declared.registers.QueueKind.{QueueKind}
+use Rattle.ring_machine.specs.declared.registers.QueueKind.TheVariants.{Receive, Transmit}
 use Rattle.ring_machine.specs.receive.Machine.{RxParts}
 use Rattle.ring_machine.specs.shared.Machine.{told_owner}
 use Rattle.ring_machine.specs.text.Moves.{text_of}
@@ -46,8 +46,8 @@ transmit_fields word = codes "{\"DD\":" ++ (decimal (word / 0x1_0000_0000 % 2) +
     ++ (codes ",\"DTALEN\":" ++ (decimal (word % 0x1_0000) ++ (codes ",\"PAYLEN\":" ++ (decimal (word / 0x4000_0000_0000) ++ codes "}")))))))))))))))
 
 -- At a driver's place the word may be anything.
-abbrev pub descriptor_fields : Side → Owner → ℕ → List ℕ
-descriptor_fields side owner.Driver word = codes "null"
+abbrev pub descriptor_fields : QueueKind → Owner → ℕ → List ℕ
+descriptor_fields kind owner.Driver word = codes "null"
 descriptor_fields Receive owner.Ring word = receive_fields word
 descriptor_fields Receive owner.Controller word = receive_fields word
 descriptor_fields Transmit owner.Ring word = transmit_fields word
@@ -58,8 +58,8 @@ abbrev pub place_members : Wrapped ℕ → ℕ → List ℕ
 place_members w place = codes "{\"place\":" ++ (decimal place ++ (codes ",\"owner\":\"" ++ (owner_word (told_owner w place) ++ (codes "\",\"buffer\":"
     ++ (number_or_null (slot_at w.slots place) ++ codes ",\"descriptor\":")))))
 
-abbrev pub place_object : Side → Wrapped ℕ → ℕ → List ℕ
-place_object side w place = place_members w place ++ (descriptor_fields side (told_owner w place) (slice_index w.words place) ++ codes "}")
+abbrev pub place_object : QueueKind → Wrapped ℕ → ℕ → List ℕ
+place_object kind w place = place_members w place ++ (descriptor_fields kind (told_owner w place) (slice_index w.words place) ++ codes "}")
 
 -- The place that a step of this kind changed, if it was the queue's last: only this place can differ from the state
 -- before the step.
@@ -80,9 +80,9 @@ tx_spot w tx.Clean = Some (place_before w.size w.next)
 tx_spot w tx.Reclaim = Some (place_before w.size w.next)
 tx_spot w step = None
 
-abbrev pub spot_object : Side → Wrapped ℕ → Option ℕ → List ℕ
-spot_object side w None = codes "null"
-spot_object side w (Some place) = place_object side w place
+abbrev pub spot_object : QueueKind → Wrapped ℕ → Option ℕ → List ℕ
+spot_object kind w None = codes "null"
+spot_object kind w (Some place) = place_object kind w place
 
 -- ---- what the sides share and know
 

@@ -1,10 +1,10 @@
 //! The columns of one place.
 ghost use Rattle.std.specs.Prelude.{◌≡◌, ◌++◌, ◌<◌, OnOk, Some};
 ghost use Rattle.std.specs.String.{string_bytes};
-ghost use Rattle.ring_machine.specs.declared.registers.Side.TheVariants.{Receive, Transmit};
+ghost use Rattle.ring_machine.specs.declared.registers.QueueKind.TheVariants.{Receive, Transmit};
 ghost use Rattle.pictures.specs.Pictures.{age_at, columns, flag_words, item_of, line, mark, marks, number_or, owner_word, says_done, says_eop, says_rs, word_words};
 
-use ring_machine::{QueueMachine, Registers, Side};
+use ring_machine::{QueueKind, QueueMachine, Registers};
 use ring_model::{Owner, places_between};
 use std::alloc::AllocError;
 use std::fmt;
@@ -76,13 +76,13 @@ fn transmit_words(word: u64) -> &'static str
     )
 }
 
-fn word_words(side: Side, owner: Owner, word: u64) -> &'static str
-    ensures { result.now ≡ word_words side owner word }
+fn word_words(kind: QueueKind, owner: Owner, word: u64) -> &'static str
+    ensures { result.now ≡ word_words kind owner word }
 {
-    match (owner, side) {
+    match (owner, kind) {
         (Owner::Driver, _) => "any",
-        (_, Side::Receive) => receive_words(word),
-        (_, Side::Transmit) => transmit_words(word),
+        (_, QueueKind::Receive) => receive_words(word),
+        (_, QueueKind::Transmit) => transmit_words(word),
     }
 }
 
@@ -97,19 +97,19 @@ fn age_of(machine: &QueueMachine, place: u16) -> u16
 /// A place of a receive or transmit queue.
 #[derive(Clone, Copy)]
 pub(crate) struct Spot {
-    pub side: Side,
+    pub kind: QueueKind,
     pub place: u16,
 }
 
 // Writes a place's columns.
 fn write_columns(text: &mut String, machine: &QueueMachine, spot: Spot) -> Result<(), AllocError>
     requires { spot.place < machine.now.size }
-    ensures { OnOk result (string_bytes text.new ≡ string_bytes text.old ++ columns spot.side machine.now spot.place) }
+    ensures { OnOk result (string_bytes text.new ≡ string_bytes text.old ++ columns spot.kind machine.now spot.place) }
 {
-    let Spot { side, place } = spot;
+    let Spot { kind, place } = spot;
     let owner = machine.owner(place);
     let item = NumberOr(item_of(owner, age_of(machine, place)), "-");
-    let word = word_words(side, owner, machine.word(place));
+    let word = word_words(kind, owner, machine.word(place));
     let buffer = NumberOr(machine.slot(place), "-");
     let owner = owner_word(owner);
     write!(text, "{place}\t{item}\t{owner}\t{word}\t{buffer}")
@@ -130,7 +130,7 @@ fn write_mark(text: &mut String, at: u16, place: u16, name: &str) -> Result<(), 
 fn write_marks(text: &mut String, machine: &QueueMachine, place: u16) -> Result<(), AllocError>
     ensures { OnOk result (string_bytes text.new ≡ string_bytes text.old ++ marks machine.now place) }
 {
-    let Registers { head, tail, .. } = machine.registers(Side::Receive);
+    let Registers { head, tail, .. } = machine.registers(QueueKind::Receive);
     write_mark(text, head, place, "head")?;
     write_mark(text, tail, place, "tail")?;
     write_mark(text, machine.fill(), place, "fill")?;
@@ -146,7 +146,7 @@ pub(crate) fn write_line(
     spot: Spot,
 ) -> Result<(), AllocError>
     requires { spot.place < machine.now.size }
-    ensures { OnOk result (string_bytes text.new ≡ string_bytes text.old ++ line spot.side machine.now spot.place) }
+    ensures { OnOk result (string_bytes text.new ≡ string_bytes text.old ++ line spot.kind machine.now spot.place) }
 {
     write_columns(text, machine, spot)?;
     write_marks(text, machine, spot.place)?;

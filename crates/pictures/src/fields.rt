@@ -5,7 +5,7 @@ ghost use Rattle.pictures.specs.States.{descriptor_fields, place_members, place_
 
 use crate::columns::{NumberOr, Spot, owner_word};
 use crate::picture::place_before;
-use ring_machine::{QueueMachine, SegmentDescriptor, SegmentLength, Side};
+use ring_machine::{QueueKind, QueueMachine, SegmentDescriptor, SegmentLength};
 use ring_model::{Owner, RxStep, TxStep};
 use std::alloc::AllocError;
 
@@ -37,13 +37,18 @@ fn write_transmit_fields(text: &mut String, word: u64) -> Result<(), AllocError>
 }
 
 // Writes the fields of a descriptor, or `null` at a driver's place, whose word may be anything.
-fn write_fields(text: &mut String, side: Side, owner: Owner, word: u64) -> Result<(), AllocError>
-    ensures { OnOk result (string_bytes text.new ≡ string_bytes text.old ++ descriptor_fields side owner word) }
+fn write_fields(
+    text: &mut String,
+    kind: QueueKind,
+    owner: Owner,
+    word: u64,
+) -> Result<(), AllocError>
+    ensures { OnOk result (string_bytes text.new ≡ string_bytes text.old ++ descriptor_fields kind owner word) }
 {
-    match (owner, side) {
+    match (owner, kind) {
         (Owner::Driver, _) => text.push_str("null"),
-        (_, Side::Receive) => write_receive_fields(text, word),
-        (_, Side::Transmit) => write_transmit_fields(text, word),
+        (_, QueueKind::Receive) => write_receive_fields(text, word),
+        (_, QueueKind::Transmit) => write_transmit_fields(text, word),
     }
 }
 
@@ -67,11 +72,11 @@ fn write_place_members(
 // Writes a place as an object.
 fn write_place(text: &mut String, machine: &QueueMachine, spot: Spot) -> Result<(), AllocError>
     requires { spot.place < machine.now.size }
-    ensures { OnOk result (string_bytes text.new ≡ string_bytes text.old ++ place_object spot.side machine.now spot.place) }
+    ensures { OnOk result (string_bytes text.new ≡ string_bytes text.old ++ place_object spot.kind machine.now spot.place) }
 {
-    let Spot { side, place } = spot;
+    let Spot { kind, place } = spot;
     write_place_members(text, machine, place)?;
-    write_fields(text, side, machine.owner(place), machine.word(place))?;
+    write_fields(text, kind, machine.owner(place), machine.word(place))?;
     text.push('}')
 }
 
@@ -79,14 +84,14 @@ fn write_place(text: &mut String, machine: &QueueMachine, spot: Spot) -> Result<
 pub(crate) fn write_spot(
     text: &mut String,
     machine: &QueueMachine,
-    side: Side,
+    kind: QueueKind,
     place: Option<u16>,
 ) -> Result<(), AllocError>
     requires { IfSome place (λ p. p < machine.now.size) }
-    ensures { OnOk result (string_bytes text.new ≡ string_bytes text.old ++ spot_object side machine.now place) }
+    ensures { OnOk result (string_bytes text.new ≡ string_bytes text.old ++ spot_object kind machine.now place) }
 {
     match place {
-        Some(place) => write_place(text, machine, Spot { side, place }),
+        Some(place) => write_place(text, machine, Spot { kind, place }),
         None => text.push_str("null"),
     }
 }

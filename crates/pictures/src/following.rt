@@ -7,7 +7,7 @@ ghost use Rattle.pictures.specs.States.{move_members, obstacle_member, opening_l
 use crate::fields::{receive_spot, transmit_spot, write_spot};
 use crate::states::{write_receive, write_transmit};
 use ring_machine::{
-    Move, Obstacle, QueueNumber, Queues, RxMachine, SegmentDescriptor, SegmentLength, Side,
+    Move, Obstacle, QueueKind, QueueNumber, Queues, RxMachine, SegmentDescriptor, SegmentLength,
     TxMachine,
 };
 use ring_model::{RxStep, TxStep};
@@ -36,7 +36,7 @@ fn write_receive_after(
 {
     let place = receive_spot(machine.queue(), step);
     text.push_str(",\"at\":")?;
-    write_spot(text, machine.queue(), Side::Receive, place)?;
+    write_spot(text, machine.queue(), QueueKind::Receive, place)?;
     text.push(',')?;
     write_receive(text, machine)?;
     Ok(())
@@ -66,7 +66,7 @@ fn write_transmit_after(
 {
     let place = transmit_spot(machine.queue(), step);
     text.push_str(",\"at\":")?;
-    write_spot(text, machine.queue(), Side::Transmit, place)?;
+    write_spot(text, machine.queue(), QueueKind::Transmit, place)?;
     text.push(',')?;
     write_transmit(text, machine)?;
     Ok(())

@@ -4,7 +4,7 @@ ghost use Rattle.std.specs.String.{string_bytes};
 ghost use Rattle.pictures.specs.Pictures.{begins_fold, is_near, is_shown, picture, place_before, place_text};
 
 use crate::columns::{Spot, write_line};
-use ring_machine::{QueueMachine, Registers, Side};
+use ring_machine::{QueueKind, QueueMachine, Registers};
 use ring_model::place_after;
 use std::alloc::AllocError;
 
@@ -36,7 +36,7 @@ fn is_shown(machine: &QueueMachine, place: u16) -> bool
     ensures { result ≡ is_shown machine.now place }
 {
     let size = machine.size();
-    let Registers { head, tail, .. } = machine.registers(Side::Receive);
+    let Registers { head, tail, .. } = machine.registers(QueueKind::Receive);
     size <= SHORT_RING
         || is_near(size, place, head)
         || is_near(size, place, tail)
@@ -58,7 +58,7 @@ fn begins_fold(machine: &QueueMachine, place: u16) -> bool
 fn write_place(text: &mut String, machine: &QueueMachine, spot: Spot) -> Result<(), AllocError>
     requires { spot.place < machine.now.size }
     ensures { OnOk result (string_bytes text.new ≡ string_bytes text.old
-        ++ place_text spot.side machine.now spot.place) }
+        ++ place_text spot.kind machine.now spot.place) }
 {
     if is_shown(machine, spot.place) {
         return write_line(text, machine, spot);
@@ -78,14 +78,14 @@ fn write_place(text: &mut String, machine: &QueueMachine, spot: Spot) -> Result<
 /// An `Err` means that memory was refused; the text may then have some of the lines.
 pub fn write_picture(
     text: &mut String,
-    side: Side,
+    kind: QueueKind,
     machine: &QueueMachine,
 ) -> Result<(), AllocError>
-    ensures { OnOk result (string_bytes text.new ≡ string_bytes text.old ++ picture side machine.now) }
+    ensures { OnOk result (string_bytes text.new ≡ string_bytes text.old ++ picture kind machine.now) }
 {
     text.push_str(HEADING)?;
     for place in 0..machine.size() {
-        write_place(text, machine, Spot { side, place })?;
+        write_place(text, machine, Spot { kind, place })?;
     }
     Ok(())
 }

@@ -4,7 +4,7 @@ ghost use Rattle.std.specs.String.{string_bytes};
 ghost use Rattle.pictures.specs.Pictures.{queue_picture};
 
 use crate::picture::write_picture;
-use ring_machine::{Move, Queues, Side};
+use ring_machine::{Move, QueueKind, Queues};
 use std::alloc::AllocError;
 
 /// Appends the queue that a move names to a text, as [`write_picture`] does. Writes nothing if there is no such queue.
@@ -15,11 +15,11 @@ pub fn write_queue(text: &mut String, queues: &Queues, action: &Move) -> Result<
 {
     match *action {
         Move::Receive(queue, _) => match queues.receive(queue) {
-            Some(machine) => write_picture(text, Side::Receive, machine.queue()),
+            Some(machine) => write_picture(text, QueueKind::Receive, machine.queue()),
             None => Ok(()),
         },
         Move::Transmit(queue, _) => match queues.transmit(queue) {
-            Some(machine) => write_picture(text, Side::Transmit, machine.queue()),
+            Some(machine) => write_picture(text, QueueKind::Transmit, machine.queue()),
             None => Ok(()),
         },
     }

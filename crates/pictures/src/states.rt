@@ -4,7 +4,7 @@ ghost use Rattle.std.specs.String.{string_bytes};
 ghost use Rattle.pictures.specs.States.{controller_members, controller_word, driver_members, driver_word, due_member, head_member, head_word, quiet_member, quiet_word, reported_members, rx_state, tx_state, words_members};
 
 use crate::columns::NumberOr;
-use ring_machine::{QueueMachine, Registers, RxMachine, Side, TxMachine};
+use ring_machine::{QueueKind, QueueMachine, Registers, RxMachine, TxMachine};
 use ring_model::{ControllerState, DriverState, Handshake};
 use std::alloc::AllocError;
 
@@ -32,7 +32,7 @@ fn controller_word(controller: ControllerState) -> &'static str
 fn write_words(text: &mut String, machine: &QueueMachine) -> Result<(), AllocError>
     ensures { OnOk result (string_bytes text.new ≡ string_bytes text.old ++ words_members machine.now) }
 {
-    let Registers { head, tail, .. } = machine.registers(Side::Receive);
+    let Registers { head, tail, .. } = machine.registers(QueueKind::Receive);
     let Handshake { control, .. } = machine.handshake();
     write!(
         text,

@@ -8,18 +8,18 @@ use Rattle.ring_laws.specs.Frames.{length-join-snoc, unfinished-snoc, unfinished
 use Rattle.ring_laws.specs.Lists.{slice_get-snoc}
 use Rattle.tx_ring.specs.Records.{Posting}
 use Rattle.poll82599_c.specs.rings.Following.{IsBegun, CanFollow, CanPost, IsPosting}
-use Rattle.poll82599_c.specs.declared.rings.begun.Begun.{Begun}
+use Rattle.poll82599_c.specs.declared.rings.partial_frame.PartialFrame.{PartialFrame}
 
 module _ {X : Type 0} (carries : X → Piece) where
   -- nothing is begun
-  pub begun_none : (xs : List X) (b : Begun) → unfinished carries xs ≡ [] → b.segments ≡ 0 → b.bytes ≡ 0 → IsBegun carries xs b
+  pub begun_none : (xs : List X) (b : PartialFrame) → unfinished carries xs ≡ [] → b.segments ≡ 0 → b.bytes ≡ 0 → IsBegun carries xs b
   begun_none xs b none segments bytes = record {
     segments_are = ap (length {A = X}) none ∙ sym segments;
     bytes_are = ap (λ (l : List X). length (join carries l)) none ∙ sym bytes;
   }
 
   -- one more segment, which does not end the frame
-  pub begun_more : (xs : List X) (x : X) (b after : Begun) → IsBegun carries xs b → (carries x).eop ≡ false
+  pub begun_more : (xs : List X) (x : X) (b after : PartialFrame) → IsBegun carries xs b → (carries x).eop ≡ false
       → after.segments ≡ b.segments + 1 → after.bytes ≡ b.bytes + length (carries x).bytes → IsBegun carries (xs ++ x ∷ []) after
   begun_more xs x b after h goes_on segments bytes =
       let more : unfinished carries (xs ++ x ∷ []) ≡ unfinished carries xs ++ x ∷ [] = unfinished-snoc carries xs x ∙ ap (λ (e : Bool). if e then [] else unfinished carries xs ++ x ∷ []) goes_on in
@@ -33,7 +33,7 @@ module _ {X : Type 0} (carries : X → Piece) where
       }
 
   -- what the counts allow may follow
-  pub begun_follows : (n : ℕ) (xs : List X) (b : Begun) (bytes : Bytes) (eop : Bool) → IsBegun carries xs b → CanFollow n b (length bytes) eop
+  pub begun_follows : (n : ℕ) (xs : List X) (b : PartialFrame) (bytes : Bytes) (eop : Bool) → IsBegun carries xs b → CanFollow n b (length bytes) eop
       → Follows carries n (unfinished carries xs) bytes eop
   begun_follows n xs b bytes eop h can =
       let s = h.segments_are in
@@ -56,14 +56,14 @@ module _ {X : Type 0} (carries : X → Piece) where
       (unfinished-snoc carries xs x ∙ ap (λ (e : Bool). if e then [] else unfinished carries xs ++ x ∷ []) ends)
 
 -- nothing of a frame is posted
-pub posting_none : (ps : List Posting) (b : Begun) (paylen : ℕ) → unfinished carried ps ≡ [] → b.segments ≡ 0 → b.bytes ≡ 0 → IsPosting ps b paylen
+pub posting_none : (ps : List Posting) (b : PartialFrame) (paylen : ℕ) → unfinished carried ps ≡ [] → b.segments ≡ 0 → b.bytes ≡ 0 → IsPosting ps b paylen
 posting_none ps b paylen none segments bytes = record {
   counts = begun_none carried ps b none segments bytes;
   same = λ k q e. absurd (none-some q (subst (λ (l : List Posting). slice_get l k ≡ Some q) none e));
 }
 
 -- one more posting, which does not end the frame
-pub posting_more : (ps : List Posting) (p : Posting) (b after : Begun) (paylen : ℕ) → IsPosting ps b paylen → p.eop ≡ false → p.paylen ≡ paylen
+pub posting_more : (ps : List Posting) (p : Posting) (b after : PartialFrame) (paylen : ℕ) → IsPosting ps b paylen → p.eop ≡ false → p.paylen ≡ paylen
     → after.segments ≡ b.segments + 1 → after.bytes ≡ b.bytes + length p.payload → IsPosting (ps ++ p ∷ []) after paylen
 posting_more ps p b after paylen h goes_on is segments bytes =
     let more : unfinished carried (ps ++ p ∷ []) ≡ unfinished carried ps ++ p ∷ [] = unfinished-snoc carried ps p ∙ ap (λ (e : Bool). if e then [] else unfinished carried ps ++ p ∷ []) goes_on in
@@ -74,7 +74,7 @@ posting_more ps p b after paylen h goes_on is segments bytes =
     }
 
 -- what the counts and the lengths allow may be posted
-pub posting_follows : (n : ℕ) (ps : List Posting) (b : Begun) (paylen : ℕ) (p : Posting) → IsPosting ps b paylen → CanPost n b (length p.payload) p.eop p.rs p.paylen
+pub posting_follows : (n : ℕ) (ps : List Posting) (b : PartialFrame) (paylen : ℕ) (p : Posting) → IsPosting ps b paylen → CanPost n b (length p.payload) p.eop p.rs p.paylen
     → p.paylen ≡ paylen → MayFollow n (unfinished carried ps) p
 posting_follows n ps b paylen p h can is =
     let t = h.counts.bytes_are in

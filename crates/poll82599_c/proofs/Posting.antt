@@ -7,10 +7,10 @@ use Rattle.tx_ring.specs.Ends.{DriverSide, posted}
 use Rattle.tx_ring.specs.Records.{Posting}
 use Rattle.poll82599_c.specs.rings.Following.{IsPosting}
 use Rattle.poll82599_c.specs.rings.TxEnds.{IsDriving}
-use Rattle.poll82599_c.specs.declared.rings.begun.Begun.{Begun}
+use Rattle.poll82599_c.specs.declared.rings.partial_frame.PartialFrame.{PartialFrame}
 use Rattle.poll82599_c.proofs.Following.{ended_whole, posting_more}
 
-pub driving_posted : (ring : TableId) (old new : DriverSide) (p : Posting) (begun after : Begun) (paylen : ℕ) → new.table ≡ ring → posted new ≡ posted old ++ p ∷ [] → p.paylen ≡ paylen
+pub driving_posted : (ring : TableId) (old new : DriverSide) (p : Posting) (begun after : PartialFrame) (paylen : ℕ) → new.table ≡ ring → posted new ≡ posted old ++ p ∷ [] → p.paylen ≡ paylen
     → IsPosting (posted old) begun paylen → after.segments ≡ begun.segments + 1 → after.bytes ≡ begun.bytes + length p.payload → IsDriving ring new after paylen
 driving_posted ring old new p begun after paylen own grew is h segments bytes = record { own = own; begun_is = λ e. by_eop p.eop refl e }
   where

@@ -9,7 +9,7 @@ use Rattle.buffer_pool.proofs.chain.Room.TheSendSync as room
 use Rattle.controller.proofs.tally.Tally.TheSendSync as tally
 use Rattle.core.proofs.marker.PhantomData.TheSendSync as phantom
 use Rattle.core.proofs.option.Option.TheSendSync as option
-use Rattle.poll82599_c.proofs.rings.begun.Begun.TheSendSync as begun
+use Rattle.poll82599_c.proofs.rings.partial_frame.PartialFrame.TheSendSync as begun
 use Rattle.ring_model.proofs.states.Completion.TheSendSync as completion
 use Rattle.shared_ring.proofs.ends.ControllerPlaces.TheSendSync as controller_places
 use Rattle.shared_ring.proofs.ends.DriverPlaces.TheSendSync as driver_places

@@ -9,11 +9,11 @@ use Rattle.rx_ring.specs.Ends.{ControllerSide, stored}
 use Rattle.rx_ring.specs.Records.{RxControlled}
 use Rattle.poll82599_c.specs.rings.Following.{IsBegun}
 use Rattle.poll82599_c.specs.rings.RxEnds.{IsServing, StoredOne, WroteOne}
-use Rattle.poll82599_c.specs.declared.rings.begun.Begun.{Begun}
+use Rattle.poll82599_c.specs.declared.rings.partial_frame.PartialFrame.{PartialFrame}
 use Rattle.poll82599_c.proofs.Following.{begun_more, ended_whole}
 
 -- a frame is ended
-pub serving_ended : (ring : TableId) (old new : ControllerSide) (s : Segment Bytes) (after : Begun) → new.table ≡ ring → stored new ≡ stored old ++ s ∷ [] → s.eop ≡ true
+pub serving_ended : (ring : TableId) (old new : ControllerSide) (s : Segment Bytes) (after : PartialFrame) → new.table ≡ ring → stored new ≡ stored old ++ s ∷ [] → s.eop ≡ true
     → IsServing ring new after
 serving_ended ring old new s after own grew ends = record {
   own = own;
@@ -21,7 +21,7 @@ serving_ended ring old new s after own grew ends = record {
 }
 
 -- a frame goes on
-pub serving_on : (ring : TableId) (old new : ControllerSide) (s : Segment Bytes) (begun after : Begun) → new.table ≡ ring → stored new ≡ stored old ++ s ∷ [] → s.eop ≡ false
+pub serving_on : (ring : TableId) (old new : ControllerSide) (s : Segment Bytes) (begun after : PartialFrame) → new.table ≡ ring → stored new ≡ stored old ++ s ∷ [] → s.eop ≡ false
     → IsBegun piece_of (stored old) begun → after.segments ≡ begun.segments + 1 → after.bytes ≡ begun.bytes + length s.payload → IsServing ring new after
 serving_on ring old new s begun after own grew goes_on h segments bytes = record {
   own = own;

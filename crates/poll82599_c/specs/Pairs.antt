@@ -3,10 +3,10 @@ use Rattle.std.specs.Prelude.{◌≡◌, ⊤, ◌⊎◌, Option, None}
 use Rattle.poll82599_c.specs.Handles.{as_rx_driver, as_rx_controller, as_tx_driver, as_tx_controller, as_rx_queue, as_rx_device, as_tx_queue, as_tx_device}
 use Rattle.poll82599_c.specs.declared.end.End.{End}
 use Rattle.poll82599_c.specs.declared.end.End.TheVariants as end
-use Rattle.poll82599_c.specs.declared.pair.Pair.{Pair}
-use Rattle.poll82599_c.specs.declared.pair.Pair.TheVariants.{RxRing, TxRing, RxQueue, TxQueue}
+use Rattle.poll82599_c.specs.declared.pair.HandlePair.{HandlePair}
+use Rattle.poll82599_c.specs.declared.pair.HandlePair.TheVariants.{RxRing, TxRing, RxQueue, TxQueue}
 
-abbrev pub IsPair : Pair → End → End → Type 0
+abbrev pub IsPair : HandlePair → End → End → Type 0
 IsPair RxRing (end.RxDriver d) (end.RxController c) = ⊤
 IsPair TxRing (end.TxDriver d) (end.TxController c) = ⊤
 IsPair RxQueue (end.RxQueue q) (end.RxDevice d) = ⊤
@@ -14,7 +14,7 @@ IsPair TxQueue (end.TxQueue q) (end.TxDevice d) = ⊤
 IsPair _ _ _ = ⊥
 
 -- one of two handles does not hold its kind of the pair
-abbrev pub LacksOne : Pair → Option End → Option End → Type 0
+abbrev pub LacksOne : HandlePair → Option End → Option End → Type 0
 LacksOne RxRing one other = (as_rx_driver one ≡ None) ⊎ (as_rx_controller other ≡ None)
 LacksOne TxRing one other = (as_tx_driver one ≡ None) ⊎ (as_tx_controller other ≡ None)
 LacksOne RxQueue one other = (as_rx_queue one ≡ None) ⊎ (as_rx_device other ≡ None)

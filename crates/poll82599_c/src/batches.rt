@@ -9,6 +9,6 @@ mod tx_device;
 
 pub(crate) use found::Found;
 pub(crate) use packets::{Packets, fresh_packets};
-pub(crate) use queue::{Queue, RxQueue, TxQueue};
+pub(crate) use queue::{BatchQueue, RxQueue, TxQueue};
 pub(crate) use rx_device::RxDevice;
 pub(crate) use tx_device::TxDevice;

@@ -37,30 +37,30 @@ impl Protocol<Buf, Hand> for Sharing {
 }
 
 /// A buffer leaves the pool.
-pub(crate) struct Takes;
+pub(crate) struct TakesBuffer;
 
-impl Outcome<Buf, Hand> for Takes {
+impl Outcome<Buf, Hand> for TakesBuffer {
     ghost use Rattle.pool.specs.Plays.{Taken};
 
     ghost then = { Taken };
 }
 
-impl Lesson<Buf, Hand> for Takes {
+impl Lesson<Buf, Hand> for TakesBuffer {
     ghost use Rattle.pool.specs.Plays.{Looked};
 
     ghost fact = { Looked };
 }
 
 /// A buffer comes back to the pool.
-pub(crate) struct Gives;
+pub(crate) struct GivesBuffer;
 
-impl Outcome<Buf, Hand> for Gives {
+impl Outcome<Buf, Hand> for GivesBuffer {
     ghost use Rattle.pool.specs.Plays.{Given};
 
     ghost then = { Given };
 }
 
-impl Lesson<Buf, Hand> for Gives {
+impl Lesson<Buf, Hand> for GivesBuffer {
     ghost use Rattle.pool.specs.Plays.{Looked};
 
     ghost fact = { Looked };
@@ -91,11 +91,11 @@ impl Amount for Brand {
 }
 
 /// A pass is split off.
-pub(crate) struct Parts<K> {
+pub(crate) struct PartsHand<K> {
     amount: PhantomData<K>,
 }
 
-impl<K: Amount> Split<Hand> for Parts<K> {
+impl<K: Amount> Split<Hand> for PartsHand<K> {
     ghost use Rattle.pool.specs.Hands.{kept_hand, new_hand};
 
     ghost left = { kept_hand K.amount };
@@ -104,9 +104,9 @@ impl<K: Amount> Split<Hand> for Parts<K> {
 }
 
 /// Two passes are joined.
-pub(crate) struct Meets;
+pub(crate) struct JoinsHands;
 
-impl Join<Hand> for Meets {
+impl Join<Hand> for JoinsHands {
     ghost use Rattle.std.specs.Prelude.{[], None};
     ghost use Rattle.pool.specs.Hands.{hand, joined_hand};
 

@@ -7,7 +7,7 @@ ghost use Rattle.refusals.specs.declared.errors.PoolError.TheVariants.{Empty};
 ghost use Rattle.pool.specs.Hands.{fresh_hand, Took, Gave, Knows, Accounts, WasDry};
 ghost use Rattle.pool.specs.Owned.{IsOf};
 
-use crate::hand::{Adds, Gives, Hand, Sharing, Takes};
+use crate::hand::{Adds, GivesBuffer, Hand, Sharing, TakesBuffer};
 use buffer_pool::{Buf, PoolError, Stock};
 use crossbeam_queue::{Pass, RuledArrayQueue};
 use limits::{BUFFER_BYTES, FEWEST_BUFFERS, MOST_BUFFERS};
@@ -16,12 +16,12 @@ use std::marker::Model;
 use std::sync::Wait;
 
 /// The queue of the buffers that are in a pool.
-pub(crate) type Queue = RuledArrayQueue<Buf, Hand, Sharing>;
+pub(crate) type BufferQueue = RuledArrayQueue<Buf, Hand, Sharing>;
 
 /// The empty buffers that no pass holds, in the order in which they are taken. Threads share it.
 #[derive(Drop)]
 pub struct Pool {
-    pub(crate) queue: Queue,
+    pub(crate) queue: BufferQueue,
 }
 
 impl Model for Pool {
@@ -75,7 +75,7 @@ impl Pool {
         ensures accounts { IfOk result (λ made. Accounts made.1.hand) }
     {
         let stock = Stock::new(alloc, 0, count)?;
-        let (queue, mut pass) = Queue::ruled(alloc, count as usize)?;
+        let (queue, mut pass) = BufferQueue::ruled(alloc, count as usize)?;
         fill(rt, &queue, &mut pass, stock);
         Ok((Pool { queue }, PoolPass { pass }))
     }
@@ -99,7 +99,7 @@ impl Pool {
         ensures pool { IsOf self.now pass.new }
         ensures accounts { Accounts pass.new.hand }
     {
-        match self.queue.pop_as::<Takes, R>(rt, &mut pass.pass) {
+        match self.queue.pop_as::<TakesBuffer, R>(rt, &mut pass.pass) {
             Some(buf) => Ok(buf),
             None => Err(PoolError::Empty),
         }
@@ -117,7 +117,10 @@ impl Pool {
         ensures accounts { Accounts pass.new.hand }
     {
         buf.clear();
-        match self.queue.push_as::<Gives, R>(rt, &mut pass.pass, buf) {
+        match self
+            .queue
+            .push_as::<GivesBuffer, R>(rt, &mut pass.pass, buf)
+        {
             Ok(()) => {}
             Err(_) => unreachable!(),
         }
@@ -126,7 +129,7 @@ impl Pool {
 
 /// Puts the buffers of a full stock into an empty queue. No one else has the queue yet, so each push is its next step,
 /// and finds room.
-fn fill<R: Wait>(rt: &R, queue: &Queue, pass: &mut Pass<Buf, Hand>, mut stock: Stock)
+fn fill<R: Wait>(rt: &R, queue: &BufferQueue, pass: &mut Pass<Buf, Hand>, mut stock: Stock)
     requires queue { IsPassOf queue.now pass.old }
     requires room { ruled_capacity queue.now ≡ stock.count }
     requires stock { stock ≡ full_stock 0 stock.count }

@@ -3,7 +3,7 @@ ghost use Rattle.std.specs.Prelude.{◌≡◌, ◌<◌};
 ghost use Rattle.pool.specs.Hands.{kept_hand, new_hand, joined_hand, Accounts, HoldsWhole};
 ghost use Rattle.pool.specs.Owned.{IsOf};
 
-use crate::hand::{Amount, Meets, Parts, Takes};
+use crate::hand::{Amount, JoinsHands, PartsHand, TakesBuffer};
 use crate::{Pool, PoolPass};
 use std::marker::Brand;
 
@@ -28,8 +28,8 @@ impl PoolPass {
         ensures accounts { Accounts self.new.hand }
         ensures whole { HoldsWhole self.new.hand }
     {
-        pool.queue.absorb::<Meets>(&mut self.pass, other.pass);
-        pool.queue.learn_as::<Takes>(&mut self.pass);
+        pool.queue.absorb::<JoinsHands>(&mut self.pass, other.pass);
+        pool.queue.learn_as::<TakesBuffer>(&mut self.pass);
     }
 }
 
@@ -43,6 +43,6 @@ fn part<K: Amount>(pass: &mut PoolPass, pool: &Pool, k: u32) -> PoolPass
     ensures made { result ≡ record pass.old { hand = new_hand k pass.old.hand } }
 {
     PoolPass {
-        pass: pool.queue.another::<Parts<K>>(&mut pass.pass),
+        pass: pool.queue.another::<PartsHand<K>>(&mut pass.pass),
     }
 }

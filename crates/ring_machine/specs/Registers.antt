@@ -6,8 +6,8 @@ use Rattle.ring_model.specs.Worlds.{QueueMove, World}
 use Rattle.ring_model.specs.Worlds as world
 use Rattle.ring_machine.specs.declared.moves.Move.{Move}
 use Rattle.ring_machine.specs.declared.registers.Registers.{Registers}
-use Rattle.ring_machine.specs.declared.registers.Side.{Side}
-use Rattle.ring_machine.specs.declared.registers.Side.TheVariants.{Receive, Transmit}
+use Rattle.ring_machine.specs.declared.registers.QueueKind.{QueueKind}
+use Rattle.ring_machine.specs.declared.registers.QueueKind.TheVariants.{Receive, Transmit}
 use Rattle.ring_machine.specs.Queues.{QueueParts, QueuesAgree, queue_move}
 
 -- ENABLE, by the control word: it reads as 1 for 2 (enabled) and 3 (disabling asked).
@@ -15,12 +15,12 @@ abbrev pub reads_enabled : ℕ → Bool
 reads_enabled control = (control == 2) || (control == 3)
 
 -- The head and tail words, and ENABLE.
-abbrev pub registers_held : Side → Wrapped ℕ → Registers
-registers_held side w = record { side = side; head = w.head; tail = w.tail; enable = reads_enabled w.handshake.control }
+abbrev pub registers_held : QueueKind → Wrapped ℕ → Registers
+registers_held kind w = record { kind = kind; head = w.head; tail = w.tail; enable = reads_enabled w.handshake.control }
 
 -- The stored head, the number of published items modulo n, and ENABLE.
-abbrev pub registers_of : {Posted Completed Reaped : Type 0} → Side → Queue Posted Completed Reaped → Registers
-registers_of side q = record { side = side; head = q.head; tail = q.published % q.size; enable = reads_enabled q.handshake.control }
+abbrev pub registers_of : {Posted Completed Reaped : Type 0} → QueueKind → Queue Posted Completed Reaped → Registers
+registers_of kind q = record { kind = kind; head = q.head; tail = q.published % q.size; enable = reads_enabled q.handshake.control }
 
 -- The registers of the queue that a move names, if the queue exists.
 abbrev pub registers_in : World → QueueMove → Option Registers

@@ -21,7 +21,7 @@ pub use moves::{Move, MoveName, QueueNumber};
 pub use obstacle::Obstacle;
 pub use queues::Queues;
 pub use refusals::MachineError;
-pub use registers::{QUEUE_STRIDE, RDH, RDT, RXDCTL, Registers, Side, TDH, TDT, TXDCTL};
+pub use registers::{QUEUE_STRIDE, QueueKind, RDH, RDT, RXDCTL, Registers, TDH, TDT, TXDCTL};
 pub use ring_model::{
     Completion, ControlStep, ControllerState, DriverState, FetchedSegment, Note, Owner, RxStep,
     TakenSegment, TxStep,

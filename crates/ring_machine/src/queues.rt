@@ -19,7 +19,7 @@ use crate::machine::{RxMachine, TxMachine};
 use crate::moves::arguments::{SegmentDescriptor, SegmentLength};
 use crate::moves::{Move, QueueNumber};
 use crate::obstacle::Obstacle;
-use crate::registers::{Registers, Side};
+use crate::registers::{QueueKind, Registers};
 use limits::{MOST_PAIRS, is_ring_length};
 use refusals::MachineError;
 use ring_model::{Completion, Note, RxStep, TxStep};
@@ -132,11 +132,11 @@ impl Queues {
         match *action {
             Move::Receive(queue, _) => {
                 let machine = self.receive(queue)?;
-                Some(machine.queue().registers(Side::Receive))
+                Some(machine.queue().registers(QueueKind::Receive))
             }
             Move::Transmit(queue, _) => {
                 let machine = self.transmit(queue)?;
-                Some(machine.queue().registers(Side::Transmit))
+                Some(machine.queue().registers(QueueKind::Transmit))
             }
         }
     }

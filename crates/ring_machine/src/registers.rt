@@ -44,7 +44,7 @@ const _: () = prove!(QUEUE_STRIDE == 0x40);
 
 /// Whether a queue receives or transmits.
 #[derive(Clone, Copy, PartialEq, Eq)]
-pub enum Side {
+pub enum QueueKind {
     Receive,
     Transmit,
 }
@@ -53,7 +53,7 @@ pub enum Side {
 /// `TDH 1 TDT 2 TXDCTL.ENABLE 1` for a transmit queue.
 #[derive(Clone, Copy, PartialEq, Eq)]
 pub struct Registers {
-    pub side: Side,
+    pub kind: QueueKind,
     /// RDH or TDH: the place that the controller stored last, or 0 after it was cleared.
     pub head: u16,
     /// RDT or TDT: the place after the last descriptor that the driver published.
@@ -68,9 +68,9 @@ impl fmt::Display for Registers {
     fn fmt<W: fmt::Write>(&self, f: &mut fmt::Formatter<W>) -> fmt::Result {
         let (head, tail) = (self.head, self.tail);
         let enable = u8::from(self.enable);
-        match self.side {
-            Side::Receive => write!(f, "RDH {head} RDT {tail} RXDCTL.ENABLE {enable}"),
-            Side::Transmit => write!(f, "TDH {head} TDT {tail} TXDCTL.ENABLE {enable}"),
+        match self.kind {
+            QueueKind::Receive => write!(f, "RDH {head} RDT {tail} RXDCTL.ENABLE {enable}"),
+            QueueKind::Transmit => write!(f, "TDH {head} TDT {tail} TXDCTL.ENABLE {enable}"),
         }
     }
 }

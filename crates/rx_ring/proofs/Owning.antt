@@ -13,7 +13,7 @@ use Rattle.ring_model.specs.shared.Frames.{Bytes, Follows, unfinished, ends_fram
 use Rattle.ring_model.specs.shared.Handshakes.{is_live, is_tailed, is_serving}
 use Rattle.ring_laws.specs.Queues.{held_below}
 use Rattle.shared_ring.specs.Own.{MayLoad, MayTake, MayEnd, MayStore, MayReap}
-use Rattle.shared_ring.proofs.Standing.{low}
+use Rattle.shared_ring.proofs.SeatRules.{low}
 use Rattle.rx_ring.specs.Form.{rx}
 use Rattle.rx_ring.specs.Plays.{takes, TakesOut, finds_none, is_done, loads_quiet, IsBit, clears_quiet, writes_back, stores_head, says_quiet}
 use Rattle.rx_ring.specs.Records.{RxDriven, RxControlled, DriverStep, ControllerStep, driving, controlling, segment_of}

@@ -29,8 +29,8 @@ use Rattle.shared_ring.specs.Steps.{FoundTail, CameOut}
 use Rattle.shared_ring.specs.Tables.{IsTableOf, words_of}
 use Rattle.shared_ring.proofs.Allowing.{controller_role}
 use Rattle.shared_ring.proofs.Allowed.{may-store, may-load, may-take, may-reap}
-use Rattle.shared_ring.proofs.Standing as standing
-use Rattle.shared_ring.proofs.Standing.{as-made, Asks, LoadAsks, front-is}
+use Rattle.shared_ring.proofs.SeatRules as standing
+use Rattle.shared_ring.proofs.SeatRules.{as-made, Asks, LoadAsks, front-is}
 use Rattle.shared_ring.proofs.Folds.{controlling-snoc}
 
 module _ {Ring Posted Completed Reaped D C : Type 0} (form : Form Ring Posted Completed Reaped D C) where

@@ -30,8 +30,8 @@ use Rattle.shared_ring.specs.Slots.{empty_slots, front_buffer}
 use Rattle.shared_ring.specs.Tables.{IsTableOf, words_of}
 use Rattle.shared_ring.proofs.Allowing.{driver_role}
 use Rattle.shared_ring.proofs.Allowed.{may-store, may-load, may-clear, may-find, may-reap}
-use Rattle.shared_ring.proofs.Standing as standing
-use Rattle.shared_ring.proofs.Standing.{as-made, Asks, LoadAsks, front-is}
+use Rattle.shared_ring.proofs.SeatRules as standing
+use Rattle.shared_ring.proofs.SeatRules.{as-made, Asks, LoadAsks, front-is}
 use Rattle.shared_ring.proofs.Folds.{driving-snoc, slots-post, slots-return, slots-alike}
 
 module _ {Ring Posted Completed Reaped D C : Type 0} (form : Form Ring Posted Completed Reaped D C) where

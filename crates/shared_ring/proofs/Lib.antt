@@ -7,7 +7,7 @@ pub mod Folds
 pub mod Lasting
 pub mod Allowing
 pub mod Allowed
-pub mod Standing
+pub mod SeatRules
 pub mod DriverSeats
 pub mod Reclaiming
 pub mod ControllerSeats

@@ -27,7 +27,7 @@ use Rattle.shared_ring.specs.Records.{Driven, Controlled}
 use Rattle.shared_ring.specs.Seats.{driver_half, controller_half, both_halves}
 use Rattle.shared_ring.specs.Tables.{IsTableOf, words_of}
 use Rattle.shared_ring.proofs.Allowing.{running, allow_both, splits-halve, splits-lend, joins-unite, joins-return}
-use Rattle.shared_ring.proofs.Standing.{words-big}
+use Rattle.shared_ring.proofs.SeatRules.{words-big}
 use Rattle.shared_ring.proofs.Gathering.{allow_deal}
 use Rattle.shared_ring.proofs.Laying.{slice_get-last, none-empty}
 use Rattle.shared_ring.proofs.Seating.{both_are}

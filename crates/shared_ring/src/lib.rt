@@ -15,10 +15,10 @@ mod control;
 mod direction;
 mod ends;
 mod events;
-mod lending;
 mod plays;
 mod registers;
 mod slots;
+mod splitting;
 mod steps;
 
 pub use control::Control;

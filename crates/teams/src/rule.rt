@@ -71,9 +71,9 @@ impl Outcome<Flag, PassKnowledge> for Sets {
 }
 
 /// A pass gives away a share of 1.
-pub(crate) struct Parts;
+pub(crate) struct GivesShare;
 
-impl Split<PassKnowledge> for Parts {
+impl Split<PassKnowledge> for GivesShare {
     ghost use Rattle.teams.specs.Rule.{cut, given};
 
     ghost left = { cut };
@@ -93,9 +93,9 @@ impl Split<PassKnowledge> for Leaves {
 }
 
 /// Two passes are joined.
-pub(crate) struct Meets;
+pub(crate) struct JoinsPasses;
 
-impl Join<PassKnowledge> for Meets {
+impl Join<PassKnowledge> for JoinsPasses {
     ghost use Rattle.teams.specs.Rule.{both, spent};
 
     ghost both = { both };

@@ -81,8 +81,8 @@ fn run_in<'s, 'e: 's, D: Flow + 's, C: Flow + 's, R: Threads + Wait + Sync, G: G
     ensures refused { IfSome result.refusal (λ e. Halted G.answers gate.now e) }
 {
     let (Ok(driven), Ok(served)) = (
-        Rooms::of(alloc, drivers.len()),
-        Rooms::of(alloc, controllers.len()),
+        WorkerRooms::of(alloc, drivers.len()),
+        WorkerRooms::of(alloc, controllers.len()),
     ) else {
         return Ran {
             drivers,
@@ -106,19 +106,19 @@ fn run_in<'s, 'e: 's, D: Flow + 's, C: Flow + 's, R: Threads + Wait + Sync, G: G
 
 /// Room for the workers of one side, and for the hands that they return.
 #[derive(Drop)]
-struct Rooms<'e, F: Flow, G: Gate> {
+struct WorkerRooms<'e, F: Flow, G: Gate> {
     team: Vec<Begun<'e, F, G>>,
     hands: Vec<Vec<F>>,
 }
 
-impl<'e, F: Flow, G: Gate> Rooms<'e, F, G> {
+impl<'e, F: Flow, G: Gate> WorkerRooms<'e, F, G> {
     /// Empty lists with room for `count` hands.
-    fn of(alloc: Global, count: usize) -> Result<Rooms<'e, F, G>, AllocError>
+    fn of(alloc: Global, count: usize) -> Result<WorkerRooms<'e, F, G>, AllocError>
         ensures empty { IfOk result (λ r. (r.team.items ≡ []) × (r.hands.items ≡ [])) }
         ensures room { IfOk result (λ r. (count ≤ vec_capacity r.team) × (count ≤ vec_capacity r.hands)) }
     {
         let team = Vec::with_capacity(alloc, count)?;
         let hands = Vec::with_capacity(alloc, count)?;
-        Ok(Rooms { team, hands })
+        Ok(WorkerRooms { team, hands })
     }
 }

@@ -17,7 +17,7 @@ const SPINS: u32 = 64;
 
 /// The flows of a worker, and how its work ended.
 #[derive(Drop)]
-pub(crate) struct Served<F: Drop> {
+pub(crate) struct WorkerResult<F: Drop> {
     pub flows: Vec<F>,
     pub status: WorkerStatus,
 }
@@ -87,7 +87,7 @@ pub(crate) fn serve<F: Flow, R: Wait, G: Gate>(
     gate: &G,
     mut flows: Vec<F>,
     mut status: WorkerStatus,
-) -> Served<F>
+) -> WorkerResult<F>
     requires own { status.word ≡ stop.now }
     requires share { 0 < status.share }
     requires going { status.ending ≡ Done }
@@ -101,7 +101,7 @@ pub(crate) fn serve<F: Flow, R: Wait, G: Gate>(
         match serve_round(rt, stop, gate, flows.as_mut_slice(), &mut status) {
             Round::Busy => idle = 0,
             Round::Idle => idle = rest(idle),
-            Round::Ended => return Served { flows, status },
+            Round::Ended => return WorkerResult { flows, status },
         }
     }
     unreachable!()

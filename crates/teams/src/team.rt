@@ -6,7 +6,7 @@ ghost use Rattle.teams.specs.Endings.{IsEnded, IsSo};
 
 use crate::flow::Flow;
 use crate::gate::Gate;
-use crate::serving::{Served, serve};
+use crate::serving::{WorkerResult, serve};
 use crate::status::WorkerStatus;
 use crate::word::StopWord;
 use refusals::ForwardError;
@@ -22,7 +22,7 @@ pub(crate) struct Serves<'g, F: Drop, G> {
     stop: &'g StopWord,
 }
 
-impl<'g, F: Flow, G: Gate> Promise<Served<F>> for Serves<'g, F, G> {
+impl<'g, F: Flow, G: Gate> Promise<WorkerResult<F>> for Serves<'g, F, G> {
     ghost use Rattle.std.specs.Prelude.{◌≡◌, true, All, map};
     ghost use Rattle.teams.specs.Endings.{IsEnded};
 
@@ -30,10 +30,10 @@ impl<'g, F: Flow, G: Gate> Promise<Served<F>> for Serves<'g, F, G> {
 }
 
 /// A worker that was started.
-type Worker<'g, F, G> = PromisedHandle<Served<F>, Serves<'g, F, G>>;
+type Worker<'g, F, G> = PromisedHandle<WorkerResult<F>, Serves<'g, F, G>>;
 
 /// The worker of a hand, or the hand itself if no worker was started for it.
-pub(crate) type Begun<'g, F, G> = Result<Worker<'g, F, G>, Served<F>>;
+pub(crate) type Begun<'g, F, G> = Result<Worker<'g, F, G>, WorkerResult<F>>;
 
 /// Starts a worker for a hand. Returns the hand if none can be started, or work was stopped before.
 fn begin<'s, 'e: 's, F: Flow + 's, R: Threads + Wait + Sync, G: Gate + Sync>(
@@ -55,7 +55,7 @@ fn begin<'s, 'e: 's, F: Flow + 's, R: Threads + Wait + Sync, G: Gate + Sync>(
 {
     let mut status = starting.split(stop);
     if status.is_stopped(rt, stop) {
-        return Err(Served {
+        return Err(WorkerResult {
             flows: hand,
             status,
         });
@@ -121,7 +121,7 @@ fn join_one<R: Threads, F: Flow, G: Gate>(
     stop: &StopWord,
     gate: &G,
     begun: Begun<'_, F, G>,
-) -> Served<F>
+) -> WorkerResult<F>
     requires so { MatchResult begun (λ w. (w.promise.gate.now ≡ gate.now) × (w.promise.stop.now ≡ stop.now)) (λ s. IsEnded (All (λ f. F.over f ≡ true) s.flows.items) G.answers gate.now stop.now s.status) }
     ensures keys { map F.key result.flows.items ≡ given_by (λ w. map F.key w.promise.given.value.items) (λ s. map F.key s.flows.items) begun.entry }
     ensures ended { IsEnded (All (λ f. F.over f ≡ true) result.flows.items) G.answers gate.now stop.now result.status }

@@ -12,8 +12,8 @@ ghost use Rattle.teams.specs.Passes.{first_pass, joined, part_of};
 ghost use Rattle.teams.specs.Rule.{whole_share, worth};
 
 use crate::rule::{
-    Flag, Leaves, Looks, Meets, Once, Parts, PassKnowledge, Sets, may_leave, may_look, may_meet,
-    may_open, may_part, may_set,
+    Flag, GivesShare, JoinsPasses, Leaves, Looks, Once, PassKnowledge, Sets, may_leave, may_look,
+    may_meet, may_open, may_part, may_set,
 };
 use crossbeam_utils::atomic::seq_cell::{Pass, RuledSeqCell};
 use std::alloc::{AllocError, Global};
@@ -22,12 +22,12 @@ use std::sync::Wait;
 use std::sync::atomic::{AtomicBool, Ordering};
 
 /// The word, under its rule.
-type Ruled = RuledSeqCell<Flag, PassKnowledge, Once, 1>;
+type StopCell = RuledSeqCell<Flag, PassKnowledge, Once, 1>;
 
 /// A word that is set once. Threads share it.
 #[derive(Drop)]
 pub struct StopWord {
-    word: Ruled,
+    word: StopCell,
     /// Set right after the word. While it is not set, `is_set` need not load the word, which is in separate memory,
     /// perhaps in a cache line that others write.
     hint: AtomicBool,
@@ -63,7 +63,7 @@ impl StopWord {
     {
         let clear = Flag { set: false };
         may_open(clear);
-        let (word, pass) = Ruled::ruled(alloc, clear)?;
+        let (word, pass) = StopCell::ruled(alloc, clear)?;
         let hint = AtomicBool::new(false);
         Ok((StopWord { word, hint }, StopPass { pass }))
     }
@@ -114,7 +114,7 @@ impl StopWord {
     {
         may_part(&pass.pass);
         StopPass {
-            pass: self.word.split_pass::<Parts>(&mut pass.pass),
+            pass: self.word.split_pass::<GivesShare>(&mut pass.pass),
         }
     }
 
@@ -128,6 +128,6 @@ impl StopWord {
         may_leave(&other.pass);
         let rest = self.word.split_pass::<Leaves>(&mut other.pass);
         may_meet(&pass.pass, &rest);
-        self.word.join_pass::<Meets>(&mut pass.pass, rest);
+        self.word.join_pass::<JoinsPasses>(&mut pass.pass, rest);
     }
 }

@@ -25,7 +25,7 @@ use Rattle.shared_ring.specs.Own.{MayLoad, MayClear, MayEnd, MayStore, MayReap, 
 use Rattle.shared_ring.specs.Accesses.{load}
 use Rattle.shared_ring.specs.Forms.{drive, driver_access}
 use Rattle.shared_ring.specs.Tables.{words_of}
-use Rattle.shared_ring.proofs.Standing.{low}
+use Rattle.shared_ring.proofs.SeatRules.{low}
 use Rattle.tx_ring.specs.declared.events.TxDriverOwn.TheVariants.{NoReport, SawReport}
 use Rattle.tx_ring.specs.Form.{tx}
 use Rattle.tx_ring.specs.Plays.{report_word, reports_item, shows_report, reports_seen, IsPlace, cleans, IsCleaned, ends_epoch, clears_report, sends, reports}

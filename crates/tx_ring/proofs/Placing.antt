@@ -24,7 +24,7 @@ use Rattle.shared_ring.proofs.Items.{items-read}
 use Rattle.shared_ring.proofs.Laying.{descriptors-stay}
 use Rattle.tx_ring.specs.Records.{Posting, TxDriven, TxControlled, DriverStep, ControllerStep, posting_of, drive_own, drive, driving, control_own, control, controlling, fetch_word, fetched_from, fetched_word, Knowing, know, knowing}
 use Rattle.shared_ring.specs.Tables.{words_of}
-use Rattle.shared_ring.proofs.Standing.{words-big}
+use Rattle.shared_ring.proofs.SeatRules.{words-big}
 use Rattle.tx_ring.specs.Rule.{IsLaidOutAs, Learnt, TellsReports, word_of_item, buffer_of_item}
 use Rattle.tx_ring.proofs.Learning.{knowing-snoc, learnt-step}
 

@@ -29,7 +29,7 @@ use Rattle.shared_ring.proofs.Laying.{registers-stay, at_zero}
 use Rattle.tx_ring.specs.declared.events.TxControllerOwn.TheVariants.{Reported}
 use Rattle.tx_ring.specs.Records.{Posting, DriverStep, ControllerStep, knowing}
 use Rattle.shared_ring.specs.Tables.{words_of}
-use Rattle.shared_ring.proofs.Standing.{words-big}
+use Rattle.shared_ring.proofs.SeatRules.{words-big}
 use Rattle.tx_ring.specs.Rule.{IsLaidOutAs, TellsReports, filled, word_of_item, buffer_of_item, word_of}
 use Rattle.tx_ring.proofs.Learning.{learnt-step, learnt-unknown}
 use Rattle.tx_ring.proofs.Placing.{keeps_it, goes_on, control_is, fetched-snoc, unreclaimed, laid_out-beyond, head-within}

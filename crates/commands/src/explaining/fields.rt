@@ -7,7 +7,7 @@ use std::alloc::AllocError;
 
 /// The numbers that the profile allows in a field.
 #[derive(Clone, Copy)]
-enum Rule {
+enum FieldRule {
     /// This number alone.
     Fixed(u64),
     /// This number alone, which tells the type of the descriptor.
@@ -22,15 +22,15 @@ enum Rule {
 
 /// A field of a quadword: its name, its highest and its lowest bit, and its rule.
 #[derive(Clone, Copy)]
-struct Field(&'static str, u32, u32, Rule);
+struct Field(&'static str, u32, u32, FieldRule);
 
 /// 0 alone.
-const ZERO: Rule = Rule::Fixed(0);
+const ZERO: FieldRule = FieldRule::Fixed(0);
 
 /// Buffer address (82599 datasheet, 7.1.6.1 and 7.2.3.2.4): the buffer's number times 2,048.
 const ADDRESS: &[Field] = &[
     Field("buffer address", 10, 0, ZERO),
-    Field("buffer address", 26, 11, Rule::Any),
+    Field("buffer address", 26, 11, FieldRule::Any),
     Field("buffer address", 63, 27, ZERO),
 ];
 
@@ -52,8 +52,8 @@ const RX_BACK_FIRST: &[Field] = &[
 
 /// Receive descriptor, write-back format (7.1.6.2), second quadword.
 const RX_BACK_SECOND: &[Field] = &[
-    Field("DD", 0, 0, Rule::Fixed(1)),
-    Field("EOP", 1, 1, Rule::Any),
+    Field("DD", 0, 0, FieldRule::Fixed(1)),
+    Field("EOP", 1, 1, FieldRule::Any),
     Field("FLM", 2, 2, ZERO),
     Field("VP", 3, 3, ZERO),
     Field("UDPCS", 4, 4, ZERO),
@@ -76,22 +76,22 @@ const RX_BACK_SECOND: &[Field] = &[
     Field("RXE", 29, 29, ZERO),
     Field("L4E", 30, 30, ZERO),
     Field("IPE", 31, 31, ZERO),
-    Field("PKT_LEN", 47, 32, Rule::Range(1, BUFFER_BYTES as u64)),
+    Field("PKT_LEN", 47, 32, FieldRule::Range(1, BUFFER_BYTES as u64)),
     Field("VLAN tag", 63, 48, ZERO),
 ];
 
 /// Transmit descriptor, read format (7.2.3.2.4), second quadword.
 const TX_READ: &[Field] = &[
-    Field("DTALEN", 15, 0, Rule::Range(1, BUFFER_BYTES as u64)),
+    Field("DTALEN", 15, 0, FieldRule::Range(1, BUFFER_BYTES as u64)),
     Field("reserved", 17, 16, ZERO),
     Field("MAC", 19, 18, ZERO),
-    Field("DTYP", 23, 20, Rule::Type(3)),
-    Field("EOP", 24, 24, Rule::Any),
-    Field("IFCS", 25, 25, Rule::Fixed(1)),
+    Field("DTYP", 23, 20, FieldRule::Type(3)),
+    Field("EOP", 24, 24, FieldRule::Any),
+    Field("IFCS", 25, 25, FieldRule::Fixed(1)),
     Field("reserved", 26, 26, ZERO),
-    Field("RS", 27, 27, Rule::BesideEop),
+    Field("RS", 27, 27, FieldRule::BesideEop),
     Field("reserved", 28, 28, ZERO),
-    Field("DEXT", 29, 29, Rule::Type(1)),
+    Field("DEXT", 29, 29, FieldRule::Type(1)),
     Field("VLE", 30, 30, ZERO),
     Field("TSE", 31, 31, ZERO),
     Field("STA", 35, 32, ZERO),
@@ -102,7 +102,7 @@ const TX_READ: &[Field] = &[
         "PAYLEN",
         63,
         46,
-        Rule::Range(LEAST_FRAME as u64, MOST_FRAME as u64),
+        FieldRule::Range(LEAST_FRAME as u64, MOST_FRAME as u64),
     ),
 ];
 
@@ -112,7 +112,7 @@ const TX_BACK_FIRST: &[Field] = &[Field("reserved", 63, 0, ZERO)];
 /// Transmit descriptor, write-back format (7.2.3.2.4), second quadword.
 const TX_BACK_SECOND: &[Field] = &[
     Field("reserved", 31, 0, ZERO),
-    Field("DD", 32, 32, Rule::Fixed(1)),
+    Field("DD", 32, 32, FieldRule::Fixed(1)),
     Field("STA", 35, 33, ZERO),
     Field("reserved", 63, 36, ZERO),
 ];
@@ -140,11 +140,11 @@ impl Field {
         let Field(_, high, low, rule) = self;
         let number = bits(quadword, high, low);
         match (error, rule) {
-            (DescError::Reserved, Rule::Fixed(only)) | (DescError::Kind, Rule::Type(only)) => {
-                number != only
-            }
-            (DescError::Reserved, Rule::BesideEop) => number == 1 && bits(quadword, 24, 24) == 0,
-            (DescError::Size, Rule::Range(least, most)) => number < least || most < number,
+            (DescError::Reserved, FieldRule::Fixed(only))
+            | (DescError::Kind, FieldRule::Type(only)) => { number != only }
+            (DescError::Reserved, FieldRule::BesideEop) => number == 1
+                && bits(quadword, 24, 24) == 0,
+            (DescError::Size, FieldRule::Range(least, most)) => number < least || most < number,
             _ => false,
         }
     }
@@ -165,12 +165,12 @@ impl Field {
             )?;
         }
         match rule {
-            Rule::Fixed(only) | Rule::Type(only) => write!(why, ", but must be {only}"),
-            Rule::BesideEop => why.push_str(", but must be 0 unless EOP is 1"),
-            Rule::Range(least, most) => {
+            FieldRule::Fixed(only) | FieldRule::Type(only) => write!(why, ", but must be {only}"),
+            FieldRule::BesideEop => why.push_str(", but must be 0 unless EOP is 1"),
+            FieldRule::Range(least, most) => {
                 write!(why, " ({number}), but must be {least} to {most}")
             }
-            Rule::Any => Ok(()),
+            FieldRule::Any => Ok(()),
         }
     }
 }

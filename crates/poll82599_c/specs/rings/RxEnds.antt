@@ -17,7 +17,7 @@ use Rattle.rx_ring.specs.Meeting.{MadeSeats, ledger_of, stored_now}
 use Rattle.poll82599_c.specs.Held.{Both, OfBoth, Tried}
 use Rattle.poll82599_c.specs.rings.Following.{IsBegun}
 use Rattle.poll82599_c.specs.rings.Steps.{AskedDisable, AskedEnable, LoadedControl, PublishedAll, ReclaimedOne, TriedAnswer}
-use Rattle.poll82599_c.specs.declared.rings.begun.Begun.{Begun}
+use Rattle.poll82599_c.specs.declared.rings.partial_frame.PartialFrame.{PartialFrame}
 
 -- both are fresh ends of one ring of n descriptors
 abbrev pub AreMade : ℕ → Option DriverSide → Option ControllerSide → Type 0
@@ -116,7 +116,7 @@ Served _ answer bytes eop old new = answer ≡ 4294967295
 -- ---- the invariants of the objects behind the handles
 
 -- the end belongs to the object's ring, and of the unfinished frame this many segments and bytes are stored
-pub record IsServing (ring : TableId) (c : ControllerSide) (begun : Begun) : Type 0 where
+pub record IsServing (ring : TableId) (c : ControllerSide) (begun : PartialFrame) : Type 0 where
   pub own : c.table ≡ ring
   pub begun_is : is_at_frame_end c ≡ false → IsBegun piece_of (stored c) begun
 

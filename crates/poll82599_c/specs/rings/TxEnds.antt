@@ -17,7 +17,7 @@ use Rattle.tx_ring.specs.Records.{Posting}
 use Rattle.poll82599_c.specs.Held.{Both, OfBoth, Tried}
 use Rattle.poll82599_c.specs.rings.Following.{IsPosting}
 use Rattle.poll82599_c.specs.rings.Steps.{AskedDisable, AskedEnable, LoadedControl, PublishedAll, ReclaimedOne, TriedAnswer}
-use Rattle.poll82599_c.specs.declared.rings.begun.Begun.{Begun}
+use Rattle.poll82599_c.specs.declared.rings.partial_frame.PartialFrame.{PartialFrame}
 
 -- both are fresh ends of one ring of n descriptors that reports in this way
 abbrev pub AreMade : ℕ → Completion → Option DriverSide → Option ControllerSide → Type 0
@@ -104,6 +104,6 @@ Served _ answer len eop before after old new = answer ≡ 4294967295
 
 -- ---- the invariant of a driver's object: its end belongs to its ring, and of the unfinished frame this many segments
 -- and bytes are posted, each with this PAYLEN
-pub record IsDriving (ring : TableId) (d : DriverSide) (begun : Begun) (paylen : ℕ) : Type 0 where
+pub record IsDriving (ring : TableId) (d : DriverSide) (begun : PartialFrame) (paylen : ℕ) : Type 0 where
   pub own : d.table ≡ ring
   pub begun_is : are_whole (posted d) ≡ false → IsPosting (posted d) begun paylen

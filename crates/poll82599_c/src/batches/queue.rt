@@ -23,7 +23,7 @@ pub(crate) type TxQueue = Half<TxRing, TxDriver>;
 
 /// The driver of a queue of either direction, with the ring that it shares. Each direction supplies the `try_` calls of
 /// its own driver. The calls with result numbers follow from them.
-pub trait Queue: Sized {
+pub trait BatchQueue: Sized {
     ghost use Rattle.poll82599_c.specs.batches.Queues.{Directed};
 
     /// The definitions of its direction.
@@ -132,7 +132,7 @@ pub trait Queue: Sized {
     }
 }
 
-impl Queue for Half<RxRing, RxDriver> {
+impl BatchQueue for Half<RxRing, RxDriver> {
     ghost way = { directed receiver };
 
     fn is_stopped(&self) -> bool {
@@ -160,7 +160,7 @@ impl Queue for Half<RxRing, RxDriver> {
     }
 }
 
-impl Queue for Half<TxRing, TxDriver> {
+impl BatchQueue for Half<TxRing, TxDriver> {
     ghost way = { directed transmitter };
 
     fn is_stopped(&self) -> bool {

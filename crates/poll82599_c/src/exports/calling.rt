@@ -17,7 +17,7 @@ ghost use Rattle.poll82599_c.specs.rings.RxEnds as rx;
 ghost use Rattle.poll82599_c.specs.rings.Steps.{SameDriven, SameServed};
 ghost use Rattle.poll82599_c.specs.rings.TxEnds as tx;
 
-use crate::batches::{Found, Queue};
+use crate::batches::{BatchQueue, Found};
 use crate::call::{NO_OPERATION, Poll82599Call, Poll82599Device, Poll82599Packet, Poll82599Queue};
 use crate::end::End;
 use crate::handle::{Handle, take_both};

@@ -18,7 +18,7 @@ use crate::end::End;
 use crate::half::Half;
 use crate::handle::{Handle, take_both};
 use crate::makings::{lying, sole, unclosed};
-use crate::pair::Pair;
+use crate::pair::HandlePair;
 use crate::rings::{RxDriving, RxServing, TxDriving, TxServing};
 use rx_ring::{RxControllerEnd, RxDriverEnd, RxRing, meet_rx};
 use std::alloc::Global;
@@ -38,7 +38,7 @@ pub extern "C" fn poll82599_rx_close(
     ensures other { (as_rx_driver driver.old.held ≡ None) ⊎ (as_rx_controller controller.old.held ≡ None) → (result ≡ negsuc 1) × (driver.new.held ≡ driver.old.held) × (controller.new.held ≡ controller.old.held) }
     ensures closed { AreClosed (as_rx_driver driver.old.held) (as_rx_controller controller.old.held) result driver.new.held controller.new.held }
 {
-    let (one, other) = match take_pair(alloc, driver, controller, Pair::RxRing) {
+    let (one, other) = match take_pair(alloc, driver, controller, HandlePair::RxRing) {
         Ok(taken) => taken,
         Err(unheld) => return unheld,
     };
@@ -65,7 +65,7 @@ pub extern "C" fn poll82599_tx_close(
     ensures other { (as_tx_driver driver.old.held ≡ None) ⊎ (as_tx_controller controller.old.held ≡ None) → (result ≡ negsuc 1) × (driver.new.held ≡ driver.old.held) × (controller.new.held ≡ controller.old.held) }
     ensures closed { AreClosed (as_tx_driver driver.old.held) (as_tx_controller controller.old.held) result driver.new.held controller.new.held }
 {
-    let (one, other) = match take_pair(alloc, driver, controller, Pair::TxRing) {
+    let (one, other) = match take_pair(alloc, driver, controller, HandlePair::TxRing) {
         Ok(taken) => taken,
         Err(unheld) => return unheld,
     };
@@ -92,7 +92,7 @@ pub extern "C" fn poll82599_rx_queue_close(
     ensures other { (as_rx_queue queue.old.held ≡ None) ⊎ (as_rx_device device.old.held ≡ None) → (result ≡ negsuc 1) × (queue.new.held ≡ queue.old.held) × (device.new.held ≡ device.old.held) }
     ensures closed { AreClosed (as_rx_queue queue.old.held) (as_rx_device device.old.held) result queue.new.held device.new.held }
 {
-    let (one, other) = match take_pair(alloc, queue, device, Pair::RxQueue) {
+    let (one, other) = match take_pair(alloc, queue, device, HandlePair::RxQueue) {
         Ok(taken) => taken,
         Err(unheld) => return unheld,
     };
@@ -119,7 +119,7 @@ pub extern "C" fn poll82599_tx_queue_close(
     ensures other { (as_tx_queue queue.old.held ≡ None) ⊎ (as_tx_device device.old.held ≡ None) → (result ≡ negsuc 1) × (queue.new.held ≡ queue.old.held) × (device.new.held ≡ device.old.held) }
     ensures closed { AreClosed (as_tx_queue queue.old.held) (as_tx_device device.old.held) result queue.new.held device.new.held }
 {
-    let (one, other) = match take_pair(alloc, queue, device, Pair::TxQueue) {
+    let (one, other) = match take_pair(alloc, queue, device, HandlePair::TxQueue) {
         Ok(taken) => taken,
         Err(unheld) => return unheld,
     };
@@ -159,7 +159,7 @@ fn take_pair(
     alloc: Global,
     one: &mut Handle,
     other: &mut Handle,
-    pair: Pair,
+    pair: HandlePair,
 ) -> Result<(End, End), i64>
     ensures one { IfOk result (λ r. one.old.held ≡ Some r.0) }
     ensures other { IfOk result (λ r. other.old.held ≡ Some r.1) }

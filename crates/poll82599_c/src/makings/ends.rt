@@ -7,7 +7,7 @@ ghost use Rattle.poll82599_c.specs.rings.TxEnds as tx;
 
 use crate::end::End;
 use crate::makings::{Unmade, both_boxed, rx_halves, stash_of, tx_halves};
-use crate::rings::{Begun, RxDriving, RxServing, TxDriving, TxServing};
+use crate::rings::{PartialFrame, RxDriving, RxServing, TxDriving, TxServing};
 use buffer_pool::Stash;
 use std::alloc::Global;
 use tx_ring::Completion;
@@ -45,7 +45,7 @@ fn rx_of(alloc: Global, ring: u32, stash: Stash) -> Result<(RxDriving, RxServing
             RxServing {
                 ring: controller.ring,
                 end: controller.end,
-                begun: Begun::none(),
+                begun: PartialFrame::none(),
             },
         )),
         Err(why) => {
@@ -90,7 +90,7 @@ fn tx_of(
                 ring: driver.ring,
                 end: driver.end,
                 stash,
-                begun: Begun::none(),
+                begun: PartialFrame::none(),
                 paylen: 0,
             },
             serving,

@@ -9,9 +9,9 @@ ghost use Rattle.poll82599_c.specs.rings.RxEnds.{FoundQuiet, PostedOne, TookNone
 ghost use Rattle.poll82599_c.specs.rings.TxEnds.{CleanedBuffer, PostedSegment, SawNoReport};
 ghost use Rattle.poll82599_c.specs.rings.Steps.{PublishedAll, ReclaimedOne, TriedControlStep};
 
-use crate::rings::begun::{Asking, Begun};
 use crate::rings::handed::Handed;
 use crate::rings::handshake::{control_step, is_emptied};
+use crate::rings::partial_frame::{Asking, PartialFrame};
 use buffer_pool::Stash;
 use limits::BUFFER_BYTES;
 use rx_ring::{Poll, RxDriverEnd, RxRing};
@@ -172,7 +172,7 @@ pub struct TxDriving {
     pub(crate) end: TxDriverEnd,
     pub(crate) stash: Stash,
     // how much of the unfinished frame is posted, and its PAYLEN
-    pub(crate) begun: Begun,
+    pub(crate) begun: PartialFrame,
     pub(crate) paylen: u32,
 }
 
@@ -190,11 +190,11 @@ impl Model for TxDriving {
 
 impl TxDriving {
     /// How much of the unfinished frame is posted. Returns nothing if its PAYLEN is not `paylen`.
-    fn begun(&self, paylen: u32) -> Option<Begun>
+    fn begun(&self, paylen: u32) -> Option<PartialFrame>
         ensures { IfSome result (λ b. IsPosting (posted self.now) b paylen) }
     {
         if self.end.is_whole() {
-            return Some(Begun::none());
+            return Some(PartialFrame::none());
         }
         if self.paylen == paylen {
             return Some(self.begun);

@@ -13,8 +13,8 @@ ghost use Rattle.poll82599_c.specs.rings.TxEnds.{SentNone, SentOne};
 ghost use Rattle.poll82599_c.specs.rings.Steps.{AnsweredAsked, LookedAsked};
 
 use crate::half::Half;
-use crate::rings::begun::Begun;
 use crate::rings::handed::Handed;
+use crate::rings::partial_frame::PartialFrame;
 use limits::BUFFER_BYTES;
 use rx_ring::{RxControllerEnd, RxRing};
 use shared_ring::ControllerEnd;
@@ -29,7 +29,7 @@ pub struct RxServing {
     pub(crate) ring: Arc<RxRing, Global>,
     pub(crate) end: RxControllerEnd,
     // how much of the unfinished frame is stored
-    pub(crate) begun: Begun,
+    pub(crate) begun: PartialFrame,
 }
 
 impl Model for RxServing {
@@ -46,11 +46,11 @@ impl Model for RxServing {
 
 impl RxServing {
     /// How much of the unfinished frame is stored.
-    fn begun(&self) -> Begun
+    fn begun(&self) -> PartialFrame
         ensures { IsBegun piece_of (stored self.now) result }
     {
         if self.end.is_between_frames() {
-            return Begun::none();
+            return PartialFrame::none();
         }
         self.begun
     }
@@ -92,7 +92,7 @@ impl RxServing {
     }
 
     // Writes a segment into the next descriptor, and stores the head if it ends its frame.
-    fn write(&mut self, bytes: &[u8], eop: bool, begun: Begun)
+    fn write(&mut self, bytes: &[u8], eop: bool, begun: PartialFrame)
         requires serving { is_serving (rx.controller_state self.old) ≡ true }
         requires held { rx.held self.old ≡ None }
         requires quiet { is_quiet self.old ≡ false }

@@ -5,7 +5,7 @@ ghost use Rattle.ring_machine.specs.code.Obstacles.{answer_obstacle, fetch_obsta
 
 use crate::machine::queue::QueueMachine;
 use crate::obstacle::Obstacle;
-use crate::registers::{Registers, Side};
+use crate::registers::{QueueKind, Registers};
 use ring_model::{ControlStep, place_after};
 
 /// Returns `rest` if a condition holds, or else this obstacle.
@@ -67,7 +67,7 @@ impl QueueMachine {
     fn settled_obstacle(&self, rest: Option<Obstacle>) -> Option<Obstacle>
         ensures { result ≡ settled_obstacle self.now rest }
     {
-        let Registers { head, .. } = self.registers(Side::Receive);
+        let Registers { head, .. } = self.registers(QueueKind::Receive);
         let whole = unless(self.is_whole(), Obstacle::MidFrame, rest);
         let stored = unless(head == self.serve_place(), Obstacle::HeadBehind, whole);
         self.idle_obstacle(stored)

@@ -13,7 +13,7 @@ ghost use Rattle.ring_machine.specs.shared.Machine.{told_owner};
 ghost use Rattle.ring_model.specs.shared.Places.{between_places};
 ghost use Rattle.ring_machine.specs.code.Shared.{after_clear_head, after_clear_tail, after_fetch, after_head, after_look, after_out, after_post, after_publish, after_renew, after_serve, after_control, are_all_back, begun, can_fetch, can_post, is_idle, looks_settled, word_put};
 
-use crate::registers::{Registers, Side};
+use crate::registers::{QueueKind, Registers};
 use limits::is_ring_length;
 use refusals::MachineError;
 use ring_model::{ControlStep, DriverState, Handshake, Owner, place_after, places_between};
@@ -100,13 +100,13 @@ impl QueueMachine {
         self.known
     }
 
-    /// Returns the values of the registers, as those of a queue of this side.
-    pub fn registers(&self, side: Side) -> Registers
-        ensures { result ≡ registers_held side self.now }
+    /// Returns the values of the registers, as those of a queue of this kind.
+    pub fn registers(&self, kind: QueueKind) -> Registers
+        ensures { result ≡ registers_held kind self.now }
     {
         let control = self.handshake.control;
         Registers {
-            side,
+            kind,
             head: self.head,
             tail: self.tail,
             enable: control == 2 || control == 3,

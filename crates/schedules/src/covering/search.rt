@@ -24,7 +24,7 @@ struct Node {
 
 /// A pair that was met for the first time, and the state in which it was.
 #[derive(Clone, Copy)]
-pub(crate) struct Found {
+pub(crate) struct NewPair {
     pub pair: Pair,
     pub at: usize,
 }
@@ -38,7 +38,7 @@ pub struct Search {
     expanded: usize,
     steps: u64,
     met: Vec<bool>,
-    found: Vec<Found>,
+    found: Vec<NewPair>,
 }
 
 // The scope of a search is all that its contracts see.
@@ -179,7 +179,7 @@ impl Search {
         if let Some(is_met) = self.met.get_mut(pair.number()) {
             if !*is_met {
                 *is_met = true;
-                self.found.push(Found { pair: *pair, at })?;
+                self.found.push(NewPair { pair: *pair, at })?;
             }
         }
         Ok(())
@@ -227,7 +227,7 @@ impl Search {
     }
 
     /// The pairs found, without those that the list of a later pair meets on its way; the last found first.
-    pub(crate) fn chosen(&self, alloc: Global) -> Result<Vec<Found>, AllocError> {
+    pub(crate) fn chosen(&self, alloc: Global) -> Result<Vec<NewPair>, AllocError> {
         let mut covered = vec![in alloc; false; PAIRS]?;
         let mut chosen = Vec::new(alloc);
         for found in self.found.as_slice().iter().rev() {

@@ -10,8 +10,8 @@ ghost use Rattle.shared_ring.specs.declared.events.View.TheVariants.{Driver, Con
 
 use super::{ControllerSeat, DriverSeat, EndSeat, Ring, RingSeat, RingTable};
 use crate::direction::Direction;
-use crate::lending::{Deal, Halve, Lend, MeetLoad, Return, Unite};
 use crate::registers::{CONTROL, opening_words};
+use crate::splitting::{Deal, Halve, Lend, MeetLoad, Return, Unite};
 use atomic_table::Table;
 use buffer_pool::Buf;
 use ring_model::Completion;

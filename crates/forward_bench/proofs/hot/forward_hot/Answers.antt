@@ -8,8 +8,8 @@ use Rattle.forward_bench.proofs.hot.forward_hot.Goals as goal
 
 pub make_sides-requires-clause-ends : goal.make_sides-requires-clause-ends
 make_sides-requires-clause-ends g c =
-    let made = c.in_ok-lines in
-    let same : c.deref.result.now ≡ made.lines.items = search rules in
+    let made = c.in_ok-flow_rings in
+    let same : c.deref.result.now ≡ made.flow_rings.items = search rules in
     λ k d e low. subst (λ xs. AreEnds c.args.config.now.ring c.args.config.now.completion (slice_index_or xs k d) (slice_index_or made.ends.items k e)) (sym same)
     (made.ensures.made k d e (omega (arith, low, ap length same, made.ensures.flows.0)))
 

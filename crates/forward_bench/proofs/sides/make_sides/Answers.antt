@@ -10,14 +10,14 @@ make_side-side-requires-clause-ends g c =
     let n = c.loop-own.number in
     let size = c.args.config.now.ring in
     let mode = c.args.config.now.completion in
-    let line = c.index-lines-number.result in
+    let rings = c.index-flow_rings-number.result in
     let own = c.in-Some.own in
     let first = sym was.ends ∙ c.in-Some.ensures.steps.0 in
     let within = drop-within n c.args.ends.items own _ first in
-    let low : n < length c.args.lines.now = search rules in
-    let at : get_or c.args.lines.now n line ≡ line = search rules in
+    let low : n < length c.args.flow_rings.now = search rules in
+    let at : get_or c.args.flow_rings.now n rings ≡ rings = search rules in
     subst (λ l. AreEnds size mode l own) at
-    (subst (λ e. AreEnds size mode (get_or c.args.lines.now n line) e) (drop-first n c.args.ends.items own _ first own) (c.requires.ends n line own low))
+    (subst (λ e. AreEnds size mode (get_or c.args.flow_rings.now n rings) e) (drop-first n c.args.ends.items own _ first own) (c.requires.ends n rings own low))
 
 pub loop-own-preserved : goal.loop-own-preserved
 loop-own-preserved g c =

@@ -8,10 +8,10 @@ invariant-loop-own g l =
     let rest = l.own-iterator in
     record {
       ends : into_iter_items rest ≡ drop l.number l.fn.ends.items;
-      count : l.number + into_iter_len rest ≡ length l.lines;
+      count : l.number + into_iter_len rest ≡ length l.flow_rings;
       drivers : vec_len l.drivers ≡ l.number;
       controllers : vec_len l.controllers ≡ l.number;
-      room : (length l.lines ≤ vec_capacity l.drivers) × (length l.lines ≤ vec_capacity l.controllers);
+      room : (length l.flow_rings ≤ vec_capacity l.drivers) × (length l.flow_rings ≤ vec_capacity l.controllers);
       pool : IsOf l.pool l.pass;
-      share : length l.lines < l.number + l.pass.hand.share;
+      share : length l.flow_rings < l.number + l.pass.hand.share;
     }

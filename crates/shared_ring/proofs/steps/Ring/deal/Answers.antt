@@ -3,7 +3,7 @@ use Rattle.std.proofs.Common.{rules, refl, ◌≡◌, ◌≤◌, [], length, ap,
 use Rattle.std.proofs.lemmas.List.{length-replicate}
 use Rattle.buffer_pool.specs.Buffer.{blank}
 use Rattle.shared_ring.specs.Tables.{words_of}
-use Rattle.shared_ring.proofs.Standing.{words-big}
+use Rattle.shared_ring.proofs.SeatRules.{words-big}
 use Rattle.shared_ring.proofs.Meeting.{deal-asks, halve-asks}
 use Rattle.shared_ring.proofs.steps.Ring.deal.Goals as goal
 

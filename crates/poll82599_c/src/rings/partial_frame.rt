@@ -7,7 +7,7 @@ use limits::{BUFFER_BYTES, LEAST_FRAME, MOST_FRAME, MOST_SEGMENTS};
 
 /// How many segments the unfinished frame has so far, and how many bytes they have together.
 #[derive(Clone, Copy)]
-pub(crate) struct Begun {
+pub(crate) struct PartialFrame {
     pub(crate) segments: usize,
     pub(crate) bytes: usize,
 }
@@ -20,13 +20,13 @@ pub(crate) struct Asking {
     pub(crate) paylen: u32,
 }
 
-impl Begun {
+impl PartialFrame {
     /// No segment.
-    pub(crate) fn none() -> Begun
+    pub(crate) fn none() -> PartialFrame
         ensures segments { result.segments ≡ 0 }
         ensures bytes { result.bytes ≡ 0 }
     {
-        Begun {
+        PartialFrame {
             segments: 0,
             bytes: 0,
         }
@@ -71,13 +71,13 @@ impl Begun {
     }
 
     /// Adds a segment of `len` bytes.
-    pub(crate) fn with(self, len: usize) -> Begun
+    pub(crate) fn with(self, len: usize) -> PartialFrame
         requires segments { self.segments + 1 ≤ MOST_SEGMENTS }
         requires bytes { self.bytes + len ≤ MOST_FRAME }
         ensures segments { result.segments ≡ self.segments + 1 }
         ensures bytes { result.bytes ≡ self.bytes + len }
     {
-        Begun {
+        PartialFrame {
             segments: self.segments + 1,
             bytes: self.bytes + len,
         }
