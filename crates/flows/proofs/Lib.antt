@@ -8,3 +8,4 @@ pub mod Holds
 pub mod Relays
 pub mod FlowDrivers
 pub mod Closing
+pub mod Turning

@@ -160,7 +160,7 @@ offers-none i old new f next Off o here f_is own ready w is = offers-off i old n
 
 -- ---- the queue as its controller serves it
 
-pub read-at : (script : List Frame) (k : ℕ) (f e : Frame) → k < length script → f ≡ get_or script k e → slice_get script k ≡ Some f
+pub read-at : {X : Type 0} (script : List X) (k : ℕ) (f e : X) → k < length script → f ≡ get_or script k e → slice_get script k ≡ Some f
 read-at [] k f e low is = absurd (omega (arith, low))
 read-at (x ∷ xs) zero f e low is = ap Some (sym is)
 read-at (x ∷ xs) (suc k) f e low is = read-at xs k f e (omega (arith, low)) is
@@ -177,6 +177,10 @@ some-left script places next few more = lt_of_le-ne (let e = length-map places (
 
 pub as-many : (script : List Frame) (places : List ℕ) (next : ℕ) → next < length places → next < length (frames_at script places)
 as-many script places next low = let e = length-map places (λ k. bytes_at (slice_get script k)) in omega (arith, e, low)
+
+-- the next frame of the flow
+pub next-frame : (script : List Frame) (places : List ℕ) (next : ℕ) (f : Frame) → next < length places → slice_get script (get_or places next 0) ≡ Some f → slice_get (frames_at script places) next ≡ Some f.bytes
+next-frame script places next f low e = read-at (frames_at script places) next f.bytes f.bytes (as-many script places next low) (sym (frame-at script places next 0 f low e))
 
 same-config : (c new : Receiving) (f : Bytes) (offer : Offer) → Offered c f (Ok offer) new → (new.bsize ≡ c.bsize) × (new.drop_en ≡ c.drop_en)
 same-config c new f Stored w = (ap (λ (r : Receiving). r.bsize) w.same, ap (λ (r : Receiving). r.drop_en) w.same)

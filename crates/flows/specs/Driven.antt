@@ -173,6 +173,12 @@ abbrev pub is_over : Phase → Bool
 is_over (Over left) = true
 is_over _ = false
 
+-- The buffers go back to the pool.
+abbrev pub is_returning : Phase → Bool
+is_returning (Reclaiming left) = true
+is_returning (Over left) = true
+is_returning _ = false
+
 -- The driver's side: its key, its pass, its drivers and their buffers, the number of buffers that it may still take, its
 -- counts, and its phase.
 pub record Relaying : Type 0 where
@@ -186,8 +192,10 @@ pub record Relaying : Type 0 where
 abbrev pub relaying : DriverKey → FlowDrivers → Counts → Phase → Relaying
 relaying k l c phase = record { key = k; pass = l.pass; driving = driving_of l; short = l.short; counts = c; phase = phase }
 
+-- Before buffers go back, each one of the greatest number is held, or may still be taken.
 pub record IsRelaying (r : Relaying) : Type 0 where
   pub equipped : IsEquipped r.key r.pass r.driving
   pub at : IsAt r.key r.driving r.counts r.phase
   pub few : length r.pass.hand.held + r.short ≤ r.key.most
+  pub exact : is_returning r.phase ≡ false → length r.pass.hand.held + r.short ≡ r.key.most
   pub given_back : is_over r.phase ≡ true → r.pass.hand.held ≡ []

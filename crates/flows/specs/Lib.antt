@@ -5,5 +5,6 @@ pub mod Holding
 pub mod Driven
 pub mod Served
 pub mod Sides
+pub mod Turns
 pub mod Parts
 pub mod Reports

@@ -2,15 +2,18 @@
 use Rattle.std.specs.Prelude.{Bool, true, false, ◌&&◌}
 use Rattle.controller.specs.declared.tally.Tally.{Tally}
 use Rattle.flows.specs.Keys.{ControllerKey}
+use Rattle.flows.specs.Served.{RxSource, TxSink}
 use Rattle.flows.specs.declared.queue_phase.QueuePhase.{QueuePhase}
 use Rattle.flows.specs.declared.queue_phase.QueuePhase.TheVariants.{Waiting, Serving, Ended}
 
--- The controller's side: its key, the tally of its frames, and the phase of each queue.
+-- The controller's side: its key, the tally of its frames, the phase of each queue, and the queues as it serves them.
 pub record Controlling : Type 0 where
   pub key : ControllerKey
   pub tally : Tally
   pub receiving : QueuePhase
   pub sending : QueuePhase
+  pub source : RxSource
+  pub sink : TxSink
 
 abbrev pub has_ended : QueuePhase → Bool
 has_ended Waiting = false

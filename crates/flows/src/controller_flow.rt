@@ -40,7 +40,7 @@ impl<'a> Model for ControllerFlow<'a> {
 
     ghost Value = { Controlling };
 
-    ghost view = { λ f. record { key = record { number = f.number; input = f.input.input; to = f.output.to }; tally = f.input.controller.tally; receiving = f.input.queue_phase; sending = f.output.queue_phase } };
+    ghost view = { λ f. record { key = record { number = f.number; input = f.input.input; to = f.output.to }; tally = f.input.controller.tally; receiving = f.input.queue_phase; sending = f.output.queue_phase; source = f.input; sink = f.output } };
 }
 
 impl<'a> ControllerFlow<'a> {
@@ -111,6 +111,7 @@ impl<'a> Flow for ControllerFlow<'a> {
     ghost use Rattle.flows.specs.Counting.{offered};
     ghost use Rattle.flows.specs.Keys.{ControllerKey};
     ghost use Rattle.flows.specs.Sides.{has_served};
+    ghost use Rattle.flows.specs.Turns.{ControllerTurned};
 
     ghost Key = { ControllerKey };
 
@@ -119,6 +120,8 @@ impl<'a> Flow for ControllerFlow<'a> {
     ghost over = { λ f. has_served f };
 
     ghost numbers = { λ f. offered f.tally };
+
+    ghost turned = { λ answers old result new. ControllerTurned answers old.key.number result new };
 
     fn turn<R: Wait, G: Gate>(&mut self, _rt: &R, gate: &G) -> Result<Progress, ForwardError> {
         let asked = self.input.control_step();

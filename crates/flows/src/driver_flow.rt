@@ -195,6 +195,7 @@ impl<'a> Flow for DriverFlow<'a> {
     ghost use Rattle.flows.specs.Counting.{driven};
     ghost use Rattle.flows.specs.Driven.{is_over};
     ghost use Rattle.flows.specs.Keys.{DriverKey};
+    ghost use Rattle.flows.specs.Turns.{DriverTurned};
 
     ghost Key = { DriverKey };
 
@@ -203,6 +204,8 @@ impl<'a> Flow for DriverFlow<'a> {
     ghost over = { λ f. is_over f.phase };
 
     ghost numbers = { λ f. driven f.counts };
+
+    ghost turned = { λ answers old result new. DriverTurned answers old.key.number old.phase result };
 
     fn turn<R: Wait, G: Gate>(&mut self, rt: &R, gate: &G) -> Result<Progress, ForwardError> {
         let (was, counts) = (self.phase, self.counts);

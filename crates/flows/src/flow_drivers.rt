@@ -1,5 +1,5 @@
 //! Both drivers of a flow, with the buffers that it holds.
-ghost use Rattle.std.specs.Prelude.{◌≡◌, ◌+◌, ◌<◌, ◌≤◌, true, [], length, map, IfOk, IfErr};
+ghost use Rattle.std.specs.Prelude.{◌≡◌, ◌+◌, ◌<◌, ◌≤◌, true, [], length, map, IfOk, IfErr, OnErr, OnOk};
 ghost use Rattle.ring_model.specs.declared.states.DriverState.TheVariants.{Stopping};
 ghost use Rattle.buffer_pool.specs.Packed.{bytes_of};
 ghost use Rattle.limits.specs.declared.profile.TheConstants.{MOST_BATCH};
@@ -10,6 +10,7 @@ ghost use Rattle.refusals.specs.declared.errors.ForwardError.TheVariants.{Gate a
 ghost use Rattle.teams.specs.declared.gate.Who.TheVariants as who;
 ghost use Rattle.teams.specs.Gates.{MayRefuse};
 ghost use Rattle.teams.specs.Numbers.{NoneFalls};
+ghost use Rattle.forwarding.specs.Driving.{BothAllowed, OneRefused};
 ghost use Rattle.flows.specs.Counting.{driven};
 ghost use Rattle.flows.specs.Driven.{IsEquipped, KnowsAsBefore, Relayed, RxAsBefore, TxAsBefore, driving_of};
 
@@ -84,6 +85,7 @@ impl FlowDrivers {
         counts: &mut Counts,
     ) -> Result<Turned, ForwardError>
         requires equipped { IsEquipped flow_spec.now self.old.pass (driving_of self.old) }
+        requires few { length self.old.pass.hand.held + self.old.short ≤ flow_spec.now.most }
         requires rx { is_on (receive.driver_state self.old.rx.end) ≡ true }
         requires tx { is_on (transmit.driver_state self.old.tx.end) ≡ true }
         requires relayed { Relayed flow_spec.now.retries self.old.rx.end self.old.tx.end counts.old (map bytes_of self.old.packets.items) }
@@ -91,10 +93,12 @@ impl FlowDrivers {
         ensures rx { is_on (receive.driver_state self.new.rx.end) ≡ true }
         ensures tx { is_on (transmit.driver_state self.new.tx.end) ≡ true }
         ensures relayed { Relayed flow_spec.now.retries self.new.rx.end self.new.tx.end counts.new (map bytes_of self.new.packets.items) }
-        ensures held { length self.new.pass.hand.held + self.new.short ≤ length self.old.pass.hand.held + self.old.short }
+        ensures held { length self.new.pass.hand.held + self.new.short ≡ length self.old.pass.hand.held + self.old.short }
         ensures none_falls { NoneFalls (driven counts.old) (driven counts.new) }
         ensures quiet { receive.saw_quiet self.new.rx.end ≡ receive.saw_quiet self.old.rx.end }
         ensures drained { IfOk result (λ t. receive.saw_quiet self.old.rx.end ≡ true → t.taken ≡ 0 → length self.old.packets.items < MOST_BATCH → receive.is_drained self.new.rx.end ≡ true) }
+        ensures allowed { OnOk result (BothAllowed G.answers gate.now flow_spec.now.number) }
+        ensures one_refused { OnErr result (OneRefused G.answers gate.now flow_spec.now.number) }
         ensures refusal { IfErr result (λ e. (e ≡ GateRefused) × MayRefuse G.answers gate.now (who.Driver flow_spec.now.number)) }
     {
         let had = self.packets.len();
@@ -127,14 +131,16 @@ impl FlowDrivers {
     /// Drops the packets that wait, and returns their number. Their buffers go to the stash, and to the pool once it is
     /// full.
     pub(crate) fn drop_waiting<R: Wait>(&mut self, rt: &R, flow_spec: &FlowSpec<'_>) -> usize
-        requires { IsEquipped flow_spec.now self.old.pass (driving_of self.old) }
+        requires equipped { IsEquipped flow_spec.now self.old.pass (driving_of self.old) }
+        requires few { length self.old.pass.hand.held + self.old.short ≤ flow_spec.now.most }
         ensures equipped { IsEquipped flow_spec.now self.new.pass (driving_of self.new) }
         ensures count { result ≡ length self.old.packets.items }
         ensures few { result ≤ MOST_BATCH }
         ensures none { self.new.packets.items ≡ [] }
-        ensures held { length self.new.pass.hand.held + self.new.short ≤ length self.old.pass.hand.held + self.old.short }
+        ensures held { length self.new.pass.hand.held + self.new.short ≡ length self.old.pass.hand.held + self.old.short }
         ensures drivers { (self.new.rx ≡ self.old.rx) × (self.new.tx ≡ self.old.tx) }
     {
+        let _most = flow_spec.part.most; // which says that it fits its type
         drop_packets(
             rt,
             flow_spec.pool,
@@ -149,7 +155,7 @@ impl FlowDrivers {
     pub(crate) fn refill<R: Wait>(&mut self, rt: &R, flow_spec: &FlowSpec<'_>)
         requires { IsEquipped flow_spec.now self.old.pass (driving_of self.old) }
         ensures equipped { IsEquipped flow_spec.now self.new.pass (driving_of self.new) }
-        ensures held { length self.new.pass.hand.held + self.new.short ≤ length self.old.pass.hand.held + self.old.short }
+        ensures held { length self.new.pass.hand.held + self.new.short ≡ length self.old.pass.hand.held + self.old.short }
         ensures rest { (self.new.rx ≡ self.old.rx) × (self.new.tx ≡ self.old.tx) × (self.new.packets ≡ self.old.packets) }
     {
         if self.short > 0 {

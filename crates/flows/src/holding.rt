@@ -1,6 +1,7 @@
 //! Moving a flow's buffers between its stash and the pool.
 ghost use Rattle.std.specs.Prelude.{◌≡◌, ◌+◌, ◌≤◌, [], ◌++◌, length};
 ghost use Rattle.limits.specs.declared.profile.TheConstants.{MOST_BATCH};
+ghost use Rattle.controller.specs.Tallying.{most_count};
 ghost use Rattle.driver.specs.receive.Returns.{numbers_of};
 ghost use Rattle.driver.specs.transmit.Frames.{numbers_in};
 ghost use Rattle.pool.specs.Owned.{IsOf};
@@ -24,12 +25,13 @@ pub(crate) fn drop_packets<R: Wait>(
 ) -> usize
     requires pool { IsOf pool.now pass.old }
     requires held { Holds pass.old.hand.held (stash.old ++ numbers_in packets.old.items) }
+    requires few { length pass.old.hand.held + short.old ≤ most_count }
     ensures pool { IsOf pool.now pass.new }
     ensures share { pass.new.hand.share ≡ pass.old.hand.share }
     ensures count { result ≡ length packets.old.items }
     ensures few { result ≤ MOST_BATCH }
     ensures none { packets.new.items ≡ [] }
-    ensures held { length pass.new.hand.held + short.new ≤ length pass.old.hand.held + short.old }
+    ensures held { length pass.new.hand.held + short.new ≡ length pass.old.hand.held + short.old }
     ensures kept { Keeps pass.old.hand.held (stash.old ++ numbers_in packets.old.items) pass.new.hand.held stash.new }
 {
     let count = packets.len();
@@ -39,7 +41,7 @@ pub(crate) fn drop_packets<R: Wait>(
     count
 }
 
-/// Drops a packet.
+/// Drops a packet, as [`drop_packets`] does.
 fn drop_packet<R: Wait>(
     rt: &R,
     pool: &Pool,
@@ -50,15 +52,16 @@ fn drop_packet<R: Wait>(
 )
     requires pool { IsOf pool.now pass.old }
     requires held { Holds pass.old.hand.held (stash.old ++ numbers_of packet) }
+    requires few { length pass.old.hand.held + short.old ≤ most_count }
     ensures pool { IsOf pool.now pass.new }
     ensures share { pass.new.hand.share ≡ pass.old.hand.share }
-    ensures held { length pass.new.hand.held + short.new ≤ length pass.old.hand.held + short.old }
+    ensures held { length pass.new.hand.held + short.new ≡ length pass.old.hand.held + short.old }
     ensures kept { Keeps pass.old.hand.held (stash.old ++ numbers_of packet) pass.new.hand.held stash.new }
 {
     while let Some(buf) = packet.pop_front() {
         if stash.is_full() {
             pool.give(rt, pass, buf);
-            *short = short.saturating_add(1);
+            *short += 1;
         } else {
             stash.push(buf);
         }

@@ -10,6 +10,7 @@ ghost use Rattle.teams.specs.Numbers.{NoneFalls};
 ghost use Rattle.flows.specs.Counting.{offered};
 ghost use Rattle.flows.specs.Keys.{frames_at};
 ghost use Rattle.flows.specs.Served.{HasOffered};
+ghost use Rattle.flows.specs.Turns.{HasOfferedOne};
 
 use crate::queue_phase::{QueuePhase, bytes_by, is_decided};
 use controller::{RxController, Tally};
@@ -90,6 +91,7 @@ impl<'a> RxSource<'a> {
     pub(crate) fn offer<G: Gate>(&mut self, number: usize, gate: &G) -> Result<bool, ForwardError>
         ensures input { self.new.input ≡ self.old.input }
         ensures none_falls { NoneFalls (offered self.old.controller.tally) (offered self.new.controller.tally) }
+        ensures one { HasOfferedOne (G.answers gate.now) number self.old result self.new }
         ensures refused { IfErr result (λ e. Met G.answers gate.now e) }
     {
         if self.queue_phase != QueuePhase::Serving {

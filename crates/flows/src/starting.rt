@@ -28,7 +28,7 @@ pub(crate) fn stock_up<R: Wait>(
     ensures pool { IsOf pool.now pass.new }
     ensures share { pass.new.hand.share ≡ pass.old.hand.share }
     ensures posted { OnlyPosted end.old end.new }
-    ensures few { length pass.new.hand.held + result ≤ length pass.old.hand.held + most }
+    ensures exact { length pass.new.hand.held + result ≡ length pass.old.hand.held + most }
     ensures published { published end.new ≡ length (posted end.new) }
     ensures kept { Keeps pass.old.hand.held (stash.old ++ posted end.old) pass.new.hand.held (stash.new ++ posted end.new) }
 {

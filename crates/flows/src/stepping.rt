@@ -5,6 +5,7 @@ ghost use Rattle.teams.specs.Numbers.{NoneFalls};
 ghost use Rattle.flows.specs.Counting.{driven};
 ghost use Rattle.flows.specs.declared.phase.Phase.TheVariants as phase;
 ghost use Rattle.flows.specs.Driven.{GoesTo, IsEquipped, IsRelaying, driving_of, relaying};
+ghost use Rattle.flows.specs.Turns.{DriverTurned};
 
 use crate::counts::Counts;
 use crate::disabling::{finish_rx, finish_tx};
@@ -29,6 +30,7 @@ impl FlowDrivers {
         ensures went { IfOk result (λ next. IsRelaying (relaying flow_spec.now self.new counts.new next)) }
         ensures stayed { OnErr result (IsRelaying (relaying flow_spec.now self.new counts.new at)) }
         ensures none_falls { NoneFalls (driven counts.old) (driven counts.new) }
+        ensures turned { DriverTurned (G.answers gate.now) flow_spec.now.number at result }
         ensures refused { IfErr result (λ e. Met G.answers gate.now e) }
     {
         match at {
@@ -83,6 +85,7 @@ impl FlowDrivers {
         ensures next { IfOk result (λ next. GoesTo flow_spec.now.turns made next) }
         ensures stayed { OnErr result (IsRelaying (relaying flow_spec.now self.new counts.new (phase.Forwarding made))) }
         ensures none_falls { NoneFalls (driven counts.old) (driven counts.new) }
+        ensures turned { DriverTurned (G.answers gate.now) flow_spec.now.number (phase.Forwarding made) result }
         ensures refused { IfErr result (λ e. Met G.answers gate.now e) }
     {
         let quiet = self.rx.is_quiet(flow_spec.from);
@@ -155,7 +158,8 @@ impl FlowDrivers {
 
     /// Returns the packets that wait and the stash to the pool.
     fn give_at_hand<R: Wait>(&mut self, rt: &R, flow_spec: &FlowSpec<'_>)
-        requires { IsEquipped flow_spec.now self.old.pass (driving_of self.old) }
+        requires equipped { IsEquipped flow_spec.now self.old.pass (driving_of self.old) }
+        requires few { length self.old.pass.hand.held + self.old.short ≤ flow_spec.now.most }
         ensures equipped { IsEquipped flow_spec.now self.new.pass (driving_of self.new) }
         ensures none { (self.new.stash ≡ []) × (self.new.packets.items ≡ []) }
         ensures held { length self.new.pass.hand.held + self.new.short ≤ length self.old.pass.hand.held + self.old.short }

@@ -5,6 +5,7 @@ ghost use Rattle.ring_model.specs.shared.Frames.{frames};
 ghost use Rattle.ring_model.specs.transmit.Ring.{carried};
 ghost use Rattle.shared_ring.specs.Calls.{IsFreshController};
 ghost use Rattle.teams.specs.Gates.{Met};
+ghost use Rattle.flows.specs.Turns.{HasSentOne};
 
 use crate::queue_phase::QueuePhase;
 use controller::{Turn, TxController, Wire};
@@ -64,6 +65,7 @@ impl<'a> TxSink<'a> {
     /// could not grow; the next call then sends the frame.
     pub(crate) fn send<G: Gate>(&mut self, number: usize, gate: &G) -> Result<bool, ForwardError>
         ensures to { self.new.to ≡ self.old.to }
+        ensures one { HasSentOne (G.answers gate.now) number self.old result self.new }
         ensures refused { IfErr result (λ e. Met G.answers gate.now e) }
     {
         if self.queue_phase != QueuePhase::Serving {

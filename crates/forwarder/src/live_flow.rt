@@ -62,6 +62,8 @@ impl<'a, F: Numbered<T, N>, T: Snapshot<N> + Send, const N: usize> Flow for Live
 
     ghost numbers = { λ w. F.numbers w.flow };
 
+    ghost turned = { λ answers old result new. F.turned answers old.flow result new.flow };
+
     fn turn<R: Wait, G: Gate>(&mut self, rt: &R, gate: &G) -> Result<Progress, ForwardError> {
         let was = self.flow.snapshot();
         let turned = self.flow.turn(rt, gate);

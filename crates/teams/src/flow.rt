@@ -16,7 +16,11 @@ pub enum Progress {
 
 /// One side of a flow: a driver's or a controller's. A worker gives it one turn after another until it is over.
 pub trait Flow: Drop + Send {
-    ghost use Rattle.std.specs.Prelude.{◌≡◌, ℕ, Bool, true, List, IfOk, IfErr};
+    ghost use Rattle.std.specs.Prelude.{◌≡◌, ℕ, Bool, true, List, Result, IfOk, IfErr, ⊤};
+    ghost use Rattle.refusals.specs.declared.errors.ForwardError.{ForwardError};
+    ghost use Rattle.teams.specs.declared.flow.Progress.{Progress};
+    ghost use Rattle.teams.specs.declared.gate.Who.{Who};
+    ghost use Rattle.teams.specs.declared.gate.Event.{Event};
     ghost use Rattle.teams.specs.declared.flow.Progress.TheVariants as progress;
     ghost use Rattle.teams.specs.Gates.{Met};
     ghost use Rattle.teams.specs.Numbers.{NoneFalls};
@@ -33,10 +37,14 @@ pub trait Flow: Drop + Send {
     /// The numbers that the flow counts, in an order of its own. None ever falls.
     ghost numbers: { Self → List ℕ };
 
+    /// What a turn with this result did, and which events a gate with these answers allowed or refused.
+    ghost turned: { (Who → Event → Bool → Type 0) → Self → Result Progress ForwardError → Self → Type 0 } = { λ _ _ _ _. ⊤ };
+
     /// Makes one turn. After a refusal the flow is as the completed calls left it, and the turn can be repeated.
     fn turn<R: Wait, G: Gate>(&mut self, rt: &R, gate: &G) -> Result<Progress, ForwardError>
         ensures key { key self.new ≡ key self.old }
         ensures none_falls { NoneFalls (numbers self.old) (numbers self.new) }
+        ensures turned { turned (G.answers gate.now) self.old result self.new }
         ensures ended { IfOk result (λ p. p ≡ progress.Over → over self.new ≡ true) }
         ensures refused { IfErr result (λ e. Met G.answers gate.now e) };
 

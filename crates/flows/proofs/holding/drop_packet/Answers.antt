@@ -1,5 +1,4 @@
 use Rattle.std.proofs.Common.{◌∙◌, ◌+◌, ◌++◌, List, ap, refl, arith}
-use Rattle.std.proofs.Math.Nat.{min-le_left}
 use Rattle.buffer_pool.specs.Buffer.{Buffer}
 use Rattle.driver.specs.receive.Returns.{numbers_of}
 use Rattle.flows.proofs.Holds.{keeps-on, holds-on, is-held, gave-less, gave-one, moved-one}
@@ -11,6 +10,16 @@ give-requires-clause-held g c =
     is-held l.pass.hand.held now c.in-Some.buf.number l.stash (numbers_of c.pop_front.new.self) (ap (λ (p : List Buffer). l.stash ++ numbers_of p) c.in-Some.ensures.rest)
     (holds-on c.args.pass.now.hand.held (c.args.stash.now ++ numbers_of c.args.packet) l.pass.hand.held now c.requires.held l.invariant.kept)
 
+pub overflow_add-short : goal.overflow_add-short
+overflow_add-short g c =
+    let l = c.loop-buf in let held = c.args.pass.now.hand.held in let had = c.args.stash.now ++ numbers_of c.args.packet in let now = l.stash ++ numbers_of l.packet in
+    let new = c.give.new.pass.hand.held in let rest = l.stash ++ numbers_of c.pop_front.new.self in let n = c.in-Some.buf.number in
+    let first = ap (λ (p : List Buffer). l.stash ++ numbers_of p) c.in-Some.ensures.rest in
+    let holds = holds-on held had l.pass.hand.held now c.requires.held l.invariant.kept in
+    let gave = gave-one l.pass.hand.held now new rest n l.stash (numbers_of c.pop_front.new.self) first refl holds c.give.ensures.given.held in
+    let less = gave-less l.pass.hand.held now new rest n l.stash (numbers_of c.pop_front.new.self) first refl gave in
+    let so_far = l.invariant.held in let few = c.requires.few in omega (arith, less, so_far, few)
+
 pub loop-buf-preserved-then-is_full : goal.loop-buf-preserved-then-is_full
 loop-buf-preserved-then-is_full g c =
     let l = c.loop-buf in let held = c.args.pass.now.hand.held in let had = c.args.stash.now ++ numbers_of c.args.packet in let now = l.stash ++ numbers_of l.packet in
@@ -20,8 +29,7 @@ loop-buf-preserved-then-is_full g c =
     let gave = gave-one l.pass.hand.held now new rest n l.stash (numbers_of c.pop_front.new.self) first refl holds c.give.ensures.given.held in record {
       pool = c.give.ensures.pool;
       share = c.give.ensures.given.share ∙ l.invariant.share;
-      held = (let less = gave-less l.pass.hand.held now new rest n l.stash (numbers_of c.pop_front.new.self) first refl gave in let so_far = l.invariant.held in
-          let one = min-le_left (l.short + 1) 18446744073709551615 in omega (arith, less, so_far, one));
+      held = (let less = gave-less l.pass.hand.held now new rest n l.stash (numbers_of c.pop_front.new.self) first refl gave in let so_far = l.invariant.held in omega (arith, less, so_far));
       kept = keeps-on held had l.pass.hand.held now new rest l.invariant.kept gave;
     }
 

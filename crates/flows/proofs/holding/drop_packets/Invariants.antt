@@ -11,7 +11,7 @@ invariant-loop-packet g l = record {
   share : l.pass.hand.share ≡ l.fn.pass.hand.share;
   count : l.count ≡ length l.fn.packets.items;
   few : l.count ≤ MOST_BATCH;
-  held : length l.pass.hand.held + l.short ≤ length l.fn.pass.hand.held + l.fn.short;
+  held : length l.pass.hand.held + l.short ≡ length l.fn.pass.hand.held + l.fn.short;
   kept : Keeps l.fn.pass.hand.held (l.fn.stash ++ numbers_in l.fn.packets.items) l.pass.hand.held (l.stash ++ numbers_in l.packets.items);
 }
 

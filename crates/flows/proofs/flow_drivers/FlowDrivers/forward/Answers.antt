@@ -1,4 +1,4 @@
-use Rattle.std.proofs.Common.{rules, ◌+◌, ◌≤◌, length, map, sym, subst, arith}
+use Rattle.std.proofs.Common.{rules, ◌≡◌, ◌∙◌, ◌+◌, ◌≤◌, length, map, sym, refl, subst, arith}
 use Rattle.std.proofs.lemmas.Bool.{false≢true}
 use Rattle.buffer_pool.specs.Packed.{bytes_of}
 use Rattle.flows.specs.declared.flow_drivers.FlowDrivers.{FlowDrivers}
@@ -21,5 +21,6 @@ returns-clause-went g c =
         };
       };
       few = subst (λ (l : FlowDrivers). length l.pass.hand.held + l.short ≤ k.most) (sym q.ensures.rest) (let was = c.requires.few in let less = c.relay.ensures.held in omega (arith, was, less));
+      exact = λ _. subst (λ (l : FlowDrivers). length l.pass.hand.held + l.short ≡ k.most) (sym q.ensures.rest) (c.relay.ensures.held ∙ c.requires.exact refl);
       given_back = λ e. absurd (false≢true e);
     }

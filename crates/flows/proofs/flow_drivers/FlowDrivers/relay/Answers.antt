@@ -38,8 +38,8 @@ returns-then-flow_spec-clause-drained g c =
     let old = driving_of c.args.self.now in let d = c.drive.new in let t = c.in-Ok.turned in
     batch-drained t.taken t.posted old (driving d.rx d.tx d.stash d.packets.items) c.in-Ok.ensures.steps (search rules)
 
-pub drop_waiting-dropped-requires : goal.drop_waiting-dropped-requires
-drop_waiting-dropped-requires g c =
+pub drop_waiting-dropped-requires-clause-equipped : goal.drop_waiting-dropped-requires-clause-equipped
+drop_waiting-dropped-requires-clause-equipped g c =
     let k = c.args.flow_spec.now in let old = driving_of c.args.self.now in let d = c.drive.new in let new = driving d.rx d.tx d.stash d.packets.items in let t = c.in-Ok.turned in
     equipped-by k c.args.self.now.pass old new c.flow_spec.inside.from.now c.flow_spec.inside.to.now (search rules) (search rules) c.requires.equipped c.drive.ensures.can (drove-all t.taken t.posted old new c.in-Ok.ensures.steps)
 
