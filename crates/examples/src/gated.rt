@@ -1,15 +1,15 @@
-//! A custom forwarder on one thread. A driver's turn is `drive`, and a gate counts the batches of the turns.
-ghost use Rattle.std.specs.Prelude.{All};
-ghost use Rattle.driver.specs.receive.Chains.{IsTaken};
+//! A custom forwarder on one thread. A relay makes the drivers' turns, and a gate counts their batches.
+ghost use Rattle.std.specs.Prelude.{◌≡◌};
 
 use crate::ports::Ports;
 use anyhow::Result;
-use arrayvec::ArrayVec;
-use buffer_pool::Packet;
-use driver::{MOST_BATCH, QueueDriver};
-use forwarding::{Event, ForwardError, Gate, Turned, Who, drive};
+use controller::{CtlError, RxController, TxController, Wire};
+use driver::DriverError;
+use forwarding::{Event, ForwardError, Gate, Relay, Turned, Who};
+use rx_ring::RxRing;
 use std::alloc::Global;
 use std::sync::atomic::{AtomicU64, Ordering};
+use tx_ring::TxRing;
 
 /// Counts the batches that are taken. Workers in several threads could pass it.
 #[derive(Drop)]
@@ -43,42 +43,69 @@ impl Gate for Batches {
     }
 }
 
-/// Two ports, and the packets that wait between them.
+/// Two rings, the device's side of each, and the relay between them.
 #[derive(Drop)]
 pub struct Flow {
-    ports: Ports,
-    packets: ArrayVec<Packet, MOST_BATCH>,
-    ghost waiting: { All (IsTaken ports.from.slots) packets.items },
+    from: RxRing,
+    port_in: RxController,
+    to: TxRing,
+    port_out: TxController,
+    relay: Relay,
+    wire: Wire,
+    ghost stores: { port_in.end.table ≡ from },
+    ghost receives: { relay.rx.end.table ≡ from },
+    ghost transmits: { port_out.table ≡ to },
+    ghost sends: { relay.tx.end.table ≡ to },
 }
 
 impl Flow {
-    /// Makes two ports, without a waiting packet.
+    /// Makes a flow between two ports, whose queues are not enabled yet.
     pub fn new(alloc: Global) -> Result<Flow> {
+        let Ports {
+            from,
+            port_in,
+            rx,
+            to,
+            port_out,
+            tx,
+            stash,
+            wire,
+        } = Ports::new(alloc)?;
         Ok(Flow {
-            ports: Ports::new(alloc)?,
-            packets: ArrayVec::new(),
+            from,
+            port_in,
+            to,
+            port_out,
+            relay: Relay::new(rx, tx, stash),
+            wire,
         })
+    }
+
+    /// Asks for both queues to be enabled, and lets the device answer.
+    pub fn enable(&mut self) -> Result<bool, DriverError> {
+        let enabled = self.relay.enable(&self.from, &self.to)?;
+        self.port_in.turn_control(&self.from);
+        self.port_out.turn_control(&self.to);
+        Ok(enabled)
     }
 
     /// Makes the drivers' turn: touches the packets that came in and sends them on. Does nothing until both queues are
     /// enabled.
     pub fn turn<G: Gate>(&mut self, gate: &G) -> Result<Turned, ForwardError> {
-        if !self.ports.rx.is_live() || !self.ports.tx.is_live() {
+        if !self.relay.is_live() {
             return Ok(Turned {
                 taken: 0,
                 posted: 0,
             });
         }
-        drive(
-            &mut self.ports.rx,
-            &mut self.ports.tx,
-            &self.ports.from,
-            &self.ports.to,
-            &mut self.ports.stash,
-            &mut self.packets,
-            0,
-            gate,
-        )
+        self.relay.turn(&self.from, &self.to, 0, gate)
+    }
+
+    /// Makes the device's turn: lets a frame come in, and sends one if one is ready.
+    fn serve(&mut self, frame: &[u8]) -> Result<(), CtlError> {
+        self.port_in.offer(&self.from, frame)?;
+        self.port_out.turn(&self.to, &mut self.wire)?;
+        Ok(())
     }
 }
 
@@ -86,7 +113,7 @@ impl Flow {
 pub fn forwarded<G: Gate>(alloc: Global, frame: &[u8], gate: &G) -> Result<usize> {
     let mut flow = Flow::new(alloc)?;
     let went = forward_ten(&mut flow, frame, gate);
-    let count = flow.ports.wire.len();
+    let count = flow.wire.len();
     drop(flow);
     went?;
     Ok(count)
@@ -94,12 +121,12 @@ pub fn forwarded<G: Gate>(alloc: Global, frame: &[u8], gate: &G) -> Result<usize
 
 /// Lets a frame come in ten times.
 fn forward_ten<G: Gate>(flow: &mut Flow, frame: &[u8], gate: &G) -> Result<()> {
-    for _ in 0..2 {
-        flow.ports.enable()?; // asked, and then seen
+    for _ in 0..3 {
+        flow.enable()?; // the transmit queue is asked for, then the receive queue, and then both are seen enabled
     }
     for _ in 0..11 {
         flow.turn(gate)?; // empty buffers are posted, and what came in is sent on
-        flow.ports.serve(frame)?;
+        flow.serve(frame)?;
     }
     Ok(())
 }

@@ -18,10 +18,10 @@ use tx_ring::TxRing;
 #[derive(Drop)]
 pub struct Ports {
     pub from: RxRing,
-    port_in: RxController,
+    pub port_in: RxController,
     pub rx: RxDriver,
     pub to: TxRing,
-    port_out: TxController,
+    pub port_out: TxController,
     pub tx: TxDriver,
     pub stash: Stash,
     pub wire: Wire,

@@ -4,7 +4,7 @@
 //! Guarantees which packets a turn ([`drive`]) took, changed and posted.
 //!
 //! [`drive`] is a driver's turn for one flow: it takes a batch of packets, touches each of them, and posts the packets
-//! that wait. It passes a [`Gate`] before each call that makes steps.
+//! that wait. It passes a [`Gate`] before each call that makes steps. A [`Relay`] keeps what the turns of a flow need.
 //!
 //! A [`FlowReport`] has the counts of a flow that ended, and the frames that it sent. [`peer`] says where the frames of a
 //! flow leave.
@@ -14,12 +14,14 @@
 
 mod packets;
 mod ports;
+mod relay;
 mod report;
 mod turning;
 
 pub use packets::touch;
 pub use ports::{PortQueue, peer};
 pub use refusals::ForwardError;
+pub use relay::{Relay, RelayParts};
 pub use report::{Ended, FlowReport};
 pub use teams::{Event, Flow, Gate, Open, Progress, Who, admit};
 pub use turning::{Turned, drive};
