@@ -5,6 +5,7 @@ use Rattle.std.proofs.lemmas.List.{append-nil}
 use Rattle.std.specs.Io.KnownBytes.{Keeps}
 use Rattle.requests.specs.declared.answers.TheConstants.{EXIT_SUCCESS, EXIT_REFUSED}
 use Rattle.requests.specs.declared.refusal.Refusal.TheVariants as refusal
+use Rattle.requests.specs.Answers.{AppendsFirst}
 use Rattle.forwarding.specs.declared.report.FlowReport.{FlowReport}
 use Rattle.program.specs.Forwards.{AreReports, EndsForward, IsForwarded, IsUnforwarded}
 use Rattle.forward_io.specs.Streams.{Outlet, output_bytes}
@@ -58,10 +59,10 @@ pub page-of : (config : Config) (to : Outlet) (intake : FrameIntake) (input : Op
 page-of config to intake input script skipped flows page says reports printed =
     record { flows = flows; skipped = skipped; reports = record { script = script; says = says; reports = reports }; printed = printed }
 
--- a page that an output did not take
+-- a page of which an output took no more than the first bytes
 pub unprinted : (config : Config) (to : Outlet) (intake : FrameIntake) (wires : List PortFile) (input old new : Option (List ℕ)) (e : FileRefusal) (page : List ℕ)
-    → IsPage config to intake input page → e ≡ refused_itself refusal.Output → WithholdsPage config to intake wires input e old new
-unprinted config to intake wires input old new e page is out = inr (page, is, out)
+    → IsPage config to intake input page → AppendsFirst old new page → e ≡ refused_itself refusal.Output → WithholdsPage config to intake wires input e old new
+unprinted config to intake wires input old new e page is first out = inr (page, is, first, out)
 
 -- the wires and counts, with no capture in their place
 abbrev pub text_of : Printing → Outlet
@@ -135,10 +136,10 @@ pub script-refused : (config : Config) (printing : Printing) (stream : Option �
     → EndsForward config printing text EXIT_REFUSED old new
 script-refused config printing stream intake wires input old new e text none whole (inl withheld) known = kept config printing text old new withheld.1
 script-refused config printing stream intake wires input old new e text none whole (inr was) known =
-    refused-ends config printing input refusal.Output old new text (inr (was.0, as-page config printing stream intake input was.0 none whole was.1, refl)) known
+    refused-ends config printing input refusal.Output old new text (inr (was.0, as-page config printing stream intake input was.0 none whole was.1, was.2, refl)) known
 
 -- a refusal
 pub ends-refused : (config : Config) (to : Outlet) (intake : FrameIntake) (wires : List PortFile) (input old new : Option (List ℕ)) (e : FileRefusal)
     → WithholdsPage config to intake wires input e old new → EndsRefused config to intake input old new
 ends-refused config to intake wires input old new e (inl withheld) = inl withheld.1
-ends-refused config to intake wires input old new e (inr was) = inr (was.0, was.1)
+ends-refused config to intake wires input old new e (inr was) = inr (was.0, was.1, was.2)

@@ -3,6 +3,7 @@ use Rattle.std.proofs.Common.{◌≡◌, inl, inr, ℕ, List, Option, Some, refl
 use Rattle.std.specs.Prelude.{Ok, Err}
 use Rattle.std.specs.Io.KnownBytes.{Appends, Keeps}
 use Rattle.requests.specs.declared.answers.TheConstants.{EXIT_SUCCESS, EXIT_REFUSED}
+use Rattle.requests.specs.Answers.{AppendsFirst}
 use Rattle.requests.specs.declared.refusal.Refusal.{Refusal}
 use Rattle.forwarding.specs.declared.report.FlowReport.{FlowReport}
 use Rattle.settings.specs.Configs.{FitsIn}
@@ -39,19 +40,22 @@ done : (config : Config) (printing : Printing) (text page : List ℕ) (old new :
 done config printing text page old new (read, same, has) printed = subst (λ (t : List ℕ). EndsForward config printing t EXIT_SUCCESS old new) same (record {
   done = λ e. record { flows = has.flows; report = has.report; printed = subst (λ (t : List ℕ). Appends old new t) has.printed printed };
   either = inl refl;
+  refused = λ e. (let bad : ⊥ = cc e in absurd bad);
   faulty = λ e bad. absurd (no-fault config read has.flows e has.report bad);
   unfit = λ script says not. absurd (no-misfit config read has.flows script has.report says not);
 })
 
 -- a refusal that prints nothing ends it, whatever the text is
 pub kept : (config : Config) (printing : Printing) (text : List ℕ) (old new : Option (List ℕ)) → Keeps old new → EndsForward config printing text EXIT_REFUSED old new
-kept config printing text old new keeps = record { done = undone config printing text old new; either = inr refl; faulty = λ e bad. (refl, keeps); unfit = λ script says not. (refl, keeps) }
+kept config printing text old new keeps = record { done = undone config printing text old new; either = inr refl; refused = λ _. inl keeps; faulty = λ e bad. (refl, keeps); unfit = λ script says not. (refl, keeps) }
 
 -- what was made and not printed is of a script that could be forwarded
-unprinted : (config : Config) (printing : Printing) (text page : List ℕ) (old new : Option (List ℕ)) → IsForwarded config printing (Some text) page → EndsForward config printing text EXIT_REFUSED old new
-unprinted config printing text page old new (read, same, has) = subst (λ (t : List ℕ). EndsForward config printing t EXIT_REFUSED old new) same (record {
+unprinted : (config : Config) (printing : Printing) (text page : List ℕ) (old new : Option (List ℕ)) → IsForwarded config printing (Some text) page → AppendsFirst old new page
+    → EndsForward config printing text EXIT_REFUSED old new
+unprinted config printing text page old new (read, same, has) first = subst (λ (t : List ℕ). EndsForward config printing t EXIT_REFUSED old new) same (record {
   done = undone config printing read old new;
   either = inr refl;
+  refused = λ _. inr (page, has, first);
   faulty = λ e bad. absurd (no-fault config read has.flows e has.report bad);
   unfit = λ script says not. absurd (no-misfit config read has.flows script has.report says not);
 })
@@ -64,5 +68,5 @@ done-ends config printing input old new text (page, is, printed) known =
 pub refused-ends : (config : Config) (printing : Printing) (input : Option (List ℕ)) (e : Refusal) (old new : Option (List ℕ)) (text : List ℕ)
     → WithholdsForward config printing input e old new → input ≡ Some text → EndsForward config printing text EXIT_REFUSED old new
 refused-ends config printing input e old new text (inl (why, keeps)) known = kept config printing text old new keeps
-refused-ends config printing input e old new text (inr (page, is, out)) known =
-    unprinted config printing text page old new (subst (λ (i : Option (List ℕ)). IsForwarded config printing i page) known is)
+refused-ends config printing input e old new text (inr (page, is, first, out)) known =
+    unprinted config printing text page old new (subst (λ (i : Option (List ℕ)). IsForwarded config printing i page) known is) first

@@ -2,6 +2,7 @@
 use Rattle.std.specs.Prelude.{◌≡◌, ◌⊎◌, ℕ, List, Option}
 use Rattle.std.specs.Io.KnownBytes.{Appends, Keeps}
 use Rattle.requests.specs.declared.refusal.Refusal.TheVariants as refusal
+use Rattle.requests.specs.Answers.{AppendsFirst}
 use Rattle.forwarding.specs.declared.report.FlowReport.{FlowReport}
 use Rattle.program.specs.Forwards.{AreReports, IsUnforwarded}
 use Rattle.forward_io.specs.Streams.{Outlet, output_bytes}
@@ -56,13 +57,13 @@ HasNoPage config intake wires input e = IsUntargeted wires e ⊎ (HasNoReports c
 abbrev pub PrintsPage : Config → Outlet → FrameIntake → Option (List ℕ) → Option (List ℕ) → Option (List ℕ) → Type 0
 PrintsPage config to intake input old new = (page : List ℕ) × IsPage config to intake input page × Appends old new page
 
--- there is no page, and the output is unchanged; or the output failed, and may have part of the page
+-- there is no page, and the output is unchanged; or the output failed, and has only the first bytes of the page
 abbrev pub WithholdsPage : Config → Outlet → FrameIntake → List PortFile → Option (List ℕ) → FileRefusal → Option (List ℕ) → Option (List ℕ) → Type 0
 WithholdsPage config to intake wires input e old new =
     (HasNoPage config intake wires input e × Keeps old new)
-    ⊎ ((page : List ℕ) × IsPage config to intake input page × (e ≡ refused_itself refusal.Output))
+    ⊎ ((page : List ℕ) × IsPage config to intake input page × AppendsFirst old new page × (e ≡ refused_itself refusal.Output))
 
--- the run was refused with nothing printed, or with a page whose output failed
+-- the run was refused with nothing printed, or with the first bytes of a page whose output failed
 abbrev pub EndsRefused : Config → Outlet → FrameIntake → Option (List ℕ) → Option (List ℕ) → Option (List ℕ) → Type 0
 EndsRefused config to intake input old new =
-    Keeps old new ⊎ ((page : List ℕ) × IsPage config to intake input page)
+    Keeps old new ⊎ ((page : List ℕ) × IsPage config to intake input page × AppendsFirst old new page)

@@ -3,6 +3,7 @@ use Rattle.std.specs.Prelude.{◌≡◌, ◌⊎◌, ℕ, ◌*◌, ◌<◌, List,
 use Rattle.std.specs.Io.KnownBytes.{Appends, Keeps}
 use Rattle.limits.specs.declared.profile.TheConstants.{PORTS}
 use Rattle.requests.specs.declared.answers.TheConstants.{EXIT_SUCCESS, EXIT_REFUSED}
+use Rattle.requests.specs.Answers.{AppendsFirst}
 use Rattle.requests.specs.declared.refusal.Refusal.{Refusal}
 use Rattle.requests.specs.declared.refusal.Refusal.TheVariants as refusal
 use Rattle.flows.specs.Reports.{IsReport}
@@ -74,15 +75,19 @@ RefusesForward config input e =
 abbrev pub PrintsForward : Config → Printing → Option (List ℕ) → Option (List ℕ) → Option (List ℕ) → Type 0
 PrintsForward config printing input old new = (page : List ℕ) × IsForwarded config printing input page × Appends old new page
 
--- it was refused: there is no page, and the output is unchanged; or the output failed, and may have part of the page
+-- it was refused: there is no page, and the output is unchanged; or the output failed, and has only the first bytes of the
+-- page
 abbrev pub WithholdsForward : Config → Printing → Option (List ℕ) → Refusal → Option (List ℕ) → Option (List ℕ) → Type 0
 WithholdsForward config printing input e old new =
-    (RefusesForward config input e × Keeps old new) ⊎ ((page : List ℕ) × IsForwarded config printing input page × (e ≡ refusal.Output))
+    (RefusesForward config input e × Keeps old new)
+    ⊎ ((page : List ℕ) × IsForwarded config printing input page × AppendsFirst old new page × (e ≡ refusal.Output))
 
--- how `forward` ends for this text: it is forwarded and printed, or refused. A faulty text and a configuration that
+-- How `forward` ends for this text: it is forwarded and printed, or refused. A refusal prints nothing, or the first bytes
+-- of a page of this text. A faulty text and a configuration that
 -- does not fit are always refused, with nothing printed
 pub record EndsForward (config : Config) (printing : Printing) (text : List ℕ) (status : ℕ) (old new : Option (List ℕ)) : Type 0 where
   pub done : status ≡ EXIT_SUCCESS → HasForwarded config printing text old new
   pub either : (status ≡ EXIT_SUCCESS) ⊎ (status ≡ EXIT_REFUSED)
+  pub refused : status ≡ EXIT_REFUSED → Keeps old new ⊎ ((page : List ℕ) × HasPage config printing text page × AppendsFirst old new page)
   pub faulty : (e : ScriptError) → script_of text ≡ Err e → (status ≡ EXIT_REFUSED) × Keeps old new
   pub unfit : (script : List Frame) → script_of text ≡ Ok script → ¬ (FitsIn script config) → (status ≡ EXIT_REFUSED) × Keeps old new

@@ -1,5 +1,5 @@
 -- The sums over all flows.
-use Rattle.std.specs.Prelude.{◌≡◌, ℕ, ◌+◌, ◌-◌, ◌^◌, max, min, List, [], ◌∷◌}
+use Rattle.std.specs.Prelude.{◌≡◌, ℕ, ◌+◌, ◌-◌, ◌*◌, ◌/◌, ◌^◌, max, min, List, [], ◌∷◌}
 use Rattle.counters.specs.declared.flows.FlowCells.{FlowCells}
 use Rattle.program.specs.declared.progress.reader.Reader.{Reader}
 use Rattle.program.specs.declared.progress.reading.Seen.{Seen}
@@ -34,9 +34,15 @@ sum_from seen (r ∷ rs) = sum_from (with_flow seen r) rs
 abbrev pub nothing_seen : Seen
 nothing_seen = record { offered = 0; taken = 0; posted = 0 }
 
--- the report shows these sums and the number of frames; its rate depends on the clock
-pub record Shows (seen : Seen) (all : ℕ) (s : LiveTotals) : Type 0 where
+-- frames per second, if this many are posted in this many milliseconds
+abbrev pub frames_per_second : ℕ → ℕ → ℕ
+frames_per_second posted millis = min (posted * 1000) (2 ^ 64 - 1) / millis
+
+-- the report shows these sums, the number of frames, and the rate since the last report, which showed this many as posted
+-- this many milliseconds ago
+pub record Shows (last millis : ℕ) (seen : Seen) (all : ℕ) (s : LiveTotals) : Type 0 where
   pub offered : s.offered ≡ seen.offered
   pub frames : s.frames ≡ all
   pub taken : s.taken ≡ seen.taken
   pub posted : s.posted ≡ seen.posted
+  pub rate : s.per_second ≡ frames_per_second (seen.posted - last) millis

@@ -13,6 +13,7 @@ mod forward_rows;
 mod forward_tests;
 mod from_tests;
 mod helped;
+mod live_tests;
 mod port_tests;
 mod reading_tests;
 mod shown_tests;

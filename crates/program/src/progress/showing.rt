@@ -1,6 +1,6 @@
 //! The thread that shows the progress of a run.
-ghost use Rattle.std.specs.Prelude.{◌≡◌};
-ghost use Rattle.program.specs.ShownSums.{Shows};
+ghost use Rattle.std.specs.Prelude.{◌≡◌, ◌<◌};
+ghost use Rattle.program.specs.ShownSums.{Shows, frames_per_second};
 
 use crate::progress::reader::Reader;
 use crate::progress::reading::{Seen, read_all};
@@ -37,7 +37,9 @@ fn rest<C: Clock>(clock: &C, over: &AtomicBool) -> bool {
 }
 
 /// Milliseconds between two readings of the clock, at least 1. Returns 1,000 if the clock could not be read.
-fn millis_between(earlier: Option<Instant>, later: Option<Instant>) -> u64 {
+fn millis_between(earlier: Option<Instant>, later: Option<Instant>) -> u64
+    ensures { 0 < result }
+{
     let (Some(earlier), Some(later)) = (earlier, later) else {
         return 1000;
     };
@@ -45,23 +47,40 @@ fn millis_between(earlier: Option<Instant>, later: Option<Instant>) -> u64 {
     u64::try_from(passed).unwrap_or(u64::MAX).max(1)
 }
 
+/// The frames per second, if this many are posted in this many milliseconds.
+fn rate(posted: u64, millis: u64) -> u64
+    requires some { 0 < millis }
+    ensures { result ≡ frames_per_second posted millis }
+{
+    posted.saturating_mul(1000) / millis
+}
+
 impl Last {
-    /// Returns the report of these numbers, and keeps them as the last.
-    fn shown<C: Clock>(&mut self, clock: &C, seen: Seen, frames: u64) -> LiveTotals
-        ensures shows { Shows seen frames result }
-        ensures last { self.new.posted ≡ seen.posted }
+    /// Returns the milliseconds since the last report, at least 1, and keeps the present time for the next call.
+    fn lap<C: Clock>(&mut self, clock: &C) -> u64
+        ensures some { 0 < result }
+        ensures posted { self.new.posted ≡ self.old.posted }
     {
         let now = Instant::now(clock).ok();
-        let more = seen.posted.saturating_sub(self.posted).saturating_mul(1000);
         let millis = millis_between(self.at, now);
-        self.posted = seen.posted;
         self.at = now;
+        millis
+    }
+
+    /// Returns the report of these numbers, this many milliseconds after the last one, and keeps them as the last.
+    fn shown(&mut self, seen: Seen, frames: u64, millis: u64) -> LiveTotals
+        requires some { 0 < millis }
+        ensures shows { Shows self.old.posted millis seen frames result }
+        ensures last { self.new.posted ≡ seen.posted }
+    {
+        let more = seen.posted.saturating_sub(self.posted);
+        self.posted = seen.posted;
         LiveTotals {
             offered: seen.offered,
             frames,
             taken: seen.taken,
             posted: seen.posted,
-            per_second: more.checked_div(millis).unwrap_or(0),
+            per_second: rate(more, millis),
         }
     }
 }
@@ -90,7 +109,8 @@ pub(crate) fn watch<R: Wait + Clock, M: Write>(
     for _ in rt.forever() {
         let ended = rest(rt, over);
         let seen = read_all(rt, readers);
-        let shown = last.shown(rt, seen, frames);
+        let millis = last.lap(rt);
+        let shown = last.shown(seen, frames, millis);
         write_line(screen, ProgressLine { form, shown });
         if ended {
             break;

@@ -1,5 +1,6 @@
-use Rattle.std.proofs.Common.{◌∙◌, ap}
+use Rattle.std.proofs.Common.{◌∙◌, ap, subst}
 use Rattle.std.proofs.lemmas.Result.{err_from_is_err_and}
+use Rattle.requests.specs.Answers.{AppendsFirst}
 use Rattle.forward_io.specs.Refusals.{refused_itself}
 use Rattle.forward_io.specs.Streams.{outlet}
 use Rattle.program.proofs.CaptureEndings.{unprinted, withheld}
@@ -16,4 +17,5 @@ returns-in_err-put-clause-refused g c =
     let p = err_from_is_err_and c.from_residual-in_err-put.result c.from_residual-in_err-put.ensures.1 in
     rw p.1 (unprinted c.args.config.now (outlet c.args.printing c.args.wires.now) c.args.intake.now c.args.wires.now (g.I.Read.remaining c.args.input.now)
     (g.W.Write.contents c.args.output.now) (g.W.Write.contents c.put.new.output) p.0 c.in_ok-bytes.bytes.items c.in_ok-bytes.ensures.page
+    (subst (AppendsFirst _ _) c.as_slice.ensures.value c.in_err-put.ensures.first)
     (p.2 ∙ ap refused_itself c.in_err-put.ensures.refused))
