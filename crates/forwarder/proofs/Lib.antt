@@ -6,3 +6,4 @@ mod FlowFrames
 pub mod Stopped
 pub mod Fresh
 pub mod Moving
+pub mod Whole

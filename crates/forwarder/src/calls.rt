@@ -5,6 +5,7 @@ ghost use Rattle.counters.specs.Paired.{ArePaired};
 ghost use Rattle.limits.specs.declared.profile.TheConstants.{MOST_PAIRS, PORTS};
 ghost use Rattle.refusals.specs.declared.errors.ForwardError.TheVariants.{Memory, Config as ConfigRefused};
 ghost use Rattle.pool.specs.declared.hand.TheConstants.{WHOLE_SHARE};
+ghost use Rattle.pool.specs.Hands.{HoldsWhole};
 ghost use Rattle.pool.specs.Owned.{IsOf};
 ghost use Rattle.flows.specs.Reports.{IsReport};
 ghost use Rattle.settings.specs.Configs.{FitsIn};
@@ -71,7 +72,9 @@ fn make_pool<R: Wait>(
 
 /// Forwards as [`forward`] does, over the caller's pool and with a configuration that `check` accepts. `config.buffers`
 /// bounds what all flows together take from the pool. If a refusal stops the workers, or not all of them can be
-/// started, the started ones are joined, all rings are closed, and the flows' buffers go back to the pool.
+/// started, the started ones are joined, all rings are closed, and the flows' buffers go back to the pool. A pool that was
+/// whole with what its pass holds is whole again.
+#[tactic(auto, using(crate::proofs::Whole::still_whole))]
 pub fn forward_in<R: Threads + Wait + Sync, G: Gate + Sync>(
     rt: &R,
     alloc: Global,
@@ -90,6 +93,7 @@ pub fn forward_in<R: Threads + Wait + Sync, G: Gate + Sync>(
     ensures pool { IsOf pool.now pass.new }
     ensures share { pass.new.hand.share ≡ pass.old.hand.share }
     ensures held { pass.new.hand.held ≡ pass.old.hand.held }
+    ensures whole { HoldsWhole pass.old.hand → HoldsWhole pass.new.hand }
 {
     let job = Job {
         script,
