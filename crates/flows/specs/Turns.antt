@@ -10,13 +10,29 @@ use Rattle.teams.specs.declared.gate.Event.{Event}
 use Rattle.teams.specs.declared.gate.Event.TheVariants.{Offer as OfferEvent, TxTurn, RxBatch, TxBatch}
 use Rattle.ring_model.specs.shared.Frames.{Bytes}
 use Rattle.controller.specs.declared.offer.Offer.{Offer}
+use Rattle.shared_ring.specs.declared.control.Control.{Control}
+use Rattle.controller.specs.Handshaking.{TurnedControl}
 use Rattle.controller.specs.Receiving.{Offered, Finished}
 use Rattle.controller.specs.Transmitting.{WasIdle, WasSent, WasRefused}
-use Rattle.flows.specs.declared.queue_phase.QueuePhase.TheVariants.{Serving}
+use Rattle.flows.specs.declared.queue_phase.QueuePhase.TheVariants.{Serving, Ended}
 use Rattle.flows.specs.declared.phase.Phase.{Phase}
 use Rattle.flows.specs.declared.phase.Phase.TheVariants.{Forwarding}
 use Rattle.flows.specs.Served.{RxSource, TxSink, decides}
 use Rattle.flows.specs.Sides.{Controlling}
+
+-- The controller answered its driver's request, if there was one, and did nothing else. After a disabling it does nothing.
+pub record RxAnswered (old new : RxSource) : Type 0 where
+  pub input : new.input ≡ old.input
+  pub next : new.next ≡ old.next
+  pub controller : new.controller ≡ record old.controller { end = new.controller.end }
+  pub over : old.queue_phase ≡ Ended → new ≡ old
+  pub turned : old.queue_phase ≢ Ended → (told : Control) × TurnedControl old.controller.end told new.controller.end
+
+pub record TxAnswered (old new : TxSink) : Type 0 where
+  pub to : new.to ≡ old.to
+  pub wire : new.wire ≡ old.wire
+  pub over : old.queue_phase ≡ Ended → new ≡ old
+  pub turned : old.queue_phase ≢ Ended → (told : Control) × TurnedControl old.controller told new.controller
 
 module _ (answers : Who → Event → Bool → Type 0) (number : ℕ) where
   -- The gate allowed it, and the controller offered the next frame.
@@ -61,9 +77,11 @@ module _ (answers : Who → Event → Bool → Type 0) (number : ℕ) where
   ThenSent (Ok decided) old (Err e) new = HasSentOne old (Err e) new
 
   -- A turn of the controller's side: first both queues answer their driver, which leaves `source` and `sink`.
-  pub record ControllerTurned (result : Result Progress ForwardError) (new : Controlling) : Type 0 where
+  pub record ControllerTurned (old : Controlling) (result : Result Progress ForwardError) (new : Controlling) : Type 0 where
     pub source : RxSource
     pub sink : TxSink
+    pub receives : RxAnswered old.source source
+    pub sends : TxAnswered old.sink sink
     pub offer : Result Bool ForwardError
     pub offered : HasOfferedOne source offer new.source
     pub sent : ThenSent offer sink result new.sink

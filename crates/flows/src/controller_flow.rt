@@ -121,7 +121,7 @@ impl<'a> Flow for ControllerFlow<'a> {
 
     ghost numbers = { λ f. offered f.tally };
 
-    ghost turned = { λ answers old result new. ControllerTurned answers old.key.number result new };
+    ghost turned = { λ answers old result new. ControllerTurned answers old.key.number old result new };
 
     fn turn<R: Wait, G: Gate>(&mut self, _rt: &R, gate: &G) -> Result<Progress, ForwardError> {
         let asked = self.input.control_step();

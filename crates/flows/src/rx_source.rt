@@ -10,7 +10,7 @@ ghost use Rattle.teams.specs.Numbers.{NoneFalls};
 ghost use Rattle.flows.specs.Counting.{offered};
 ghost use Rattle.flows.specs.Keys.{frames_at};
 ghost use Rattle.flows.specs.Served.{HasOffered};
-ghost use Rattle.flows.specs.Turns.{HasOfferedOne};
+ghost use Rattle.flows.specs.Turns.{HasOfferedOne, RxAnswered};
 
 use crate::queue_phase::{QueuePhase, bytes_by, is_decided};
 use controller::{RxController, Tally};
@@ -77,6 +77,7 @@ impl<'a> RxSource<'a> {
     pub(crate) fn control_step(&mut self) -> bool
         ensures input { self.new.input ≡ self.old.input }
         ensures tally { self.new.controller.tally ≡ self.old.controller.tally }
+        ensures answered { RxAnswered self.old self.new }
     {
         if self.queue_phase == QueuePhase::Ended {
             return false;

@@ -5,7 +5,7 @@ ghost use Rattle.ring_model.specs.shared.Frames.{frames};
 ghost use Rattle.ring_model.specs.transmit.Ring.{carried};
 ghost use Rattle.shared_ring.specs.Calls.{IsFreshController};
 ghost use Rattle.teams.specs.Gates.{Met};
-ghost use Rattle.flows.specs.Turns.{HasSentOne};
+ghost use Rattle.flows.specs.Turns.{HasSentOne, TxAnswered};
 
 use crate::queue_phase::QueuePhase;
 use controller::{Turn, TxController, Wire};
@@ -51,7 +51,8 @@ impl<'a> TxSink<'a> {
     /// Answers the driver's request, if there is one, and returns whether the phase changed. Does nothing once a
     /// disabling is answered.
     pub(crate) fn control_step(&mut self) -> bool
-        ensures { self.new.to ≡ self.old.to }
+        ensures to { self.new.to ≡ self.old.to }
+        ensures answered { TxAnswered self.old self.new }
     {
         if self.queue_phase == QueuePhase::Ended {
             return false;
