@@ -1,18 +1,20 @@
 -- What follows, step by step, of a command that is built, and of a program.
-use Rattle.std.proofs.Common.{◌≡◌, ◌∙◌, ◌+◌, ◌<◌, ◌≤◌, ap, ap₂, codes, refl, get_or, length, List, [], ◌∷◌, map, ℕ, subst, sym, take, false}
-use Rattle.std.specs.Prelude.{Result, Ok, Err, IfOk}
-use Rattle.std.specs.List.{flat_map}
+use Rattle.std.proofs.Common.{inl, ◌≡◌, ◌∙◌, ◌+◌, ◌<◌, ◌≤◌, ap, ap₂, codes, refl, get_or, length, List, [], ◌∷◌, map, ℕ, subst, sym, take, false, true}
+use Rattle.std.specs.Prelude.{Result, Ok, Err, IfErr, IfOk, IsErrAnd}
 use Rattle.std.proofs.lemmas.List.{map_more, take_all, take_more}
 use Rattle.std.proofs.lemmas.List.Sums.{fold_push}
-use Rattle.clap.specs.Words.{App, Rule, Text, app_of, new_app, with_rule, with_subcommand}
+use Rattle.clap.specs.Words.{App, FailsBy, HasMatchesOf, Rule, Text, app_of, fault_of, is_simple_and_free, kind_of, new_app, takes, with_rule, with_subcommand}
+use Rattle.clap.specs.declared.error.Error.{Error}
+use Rattle.clap.specs.declared.error.kind.ErrorKind.TheVariants.{OutOfMemory}
+use Rattle.clap.specs.declared.parser.matches.ArgMatches.{ArgMatches}
 use Rattle.clap.specs.declared.builder.command.Command.{Command}
 use Rattle.clap.specs.declared.builder.command.Command.TheViews.{out-Command}
-use Rattle.command_line.specs.Building.{Grows, IsJoined, IsNew, Joins, entry_app, with_entries}
-use Rattle.command_line.specs.CommandLine.{Choices, IsBeginning, IsProgram, bare_app, beginning_app, program_app}
+use Rattle.command_line.specs.Building.{BeginProgram, CompleteProgram, Grows, IsJoined, IsNew, Joins, entry_app, with_entries}
+use Rattle.command_line.proofs.CommandLine.{free, simple}
+use Rattle.command_line.specs.CommandLine.{AreParsed, Choices, IsBeginning, IsProgram, bare_app, beginning_app, program_app}
 use Rattle.command_line.specs.OptionWords.{with_rules}
 use Rattle.command_line.specs.Params.{rule_for}
 use Rattle.command_line.specs.declared.arguments.Param.{Param}
-use Rattle.command_line.specs.declared.arguments.Param.TheVariants.{Choice}
 use Rattle.command_line.specs.declared.building.CommandEntry.{CommandEntry}
 
 -- ---- a command
@@ -67,34 +69,40 @@ pub all-entries : {E : Type 0} → (start : App) (entries : List CommandEntry) (
     → IfOk program (IsJoined start entries)
 all-entries start entries k program end before = subst (λ (es : List CommandEntry). IfOk program (IsJoined start es)) (take_all k entries end) before
 
--- the choices of an argument, and of the kth of all commands
-abbrev choices_of : Param → Choices
-choices_of (Choice id name words help) = words
-choices_of _ = record { ref_ptr = (0, 0); now = [] }
+-- a program with the first commands
+pub begins : (app : App) (rings formats : Choices) → app ≡ beginning_app rings formats → map (λ word. word.now) rings.now ≡ codes "rx" ∷ codes "tx" ∷ []
+    → map (λ word. word.now) formats.now ≡ codes "read" ∷ codes "back" ∷ [] → IsBeginning app
+begins app rings formats same rings_are formats_are =
+    record { rings = rings; formats = formats; rings_are = rings_are; formats_are = formats_are; app_is = same }
 
-abbrev pub choices_at : ℕ → List CommandEntry → Choices
-choices_at k entries = get_or (map choices_of (flat_map (λ entry. entry.params.now) entries)) k (record { ref_ptr = (0, 0); now = [] })
-
--- with its first commands, wherever the choices of `decode` lie
-pub beginning_is : {E : Type 0} → (entries : List CommandEntry) (program : Result Command E) → let rings = choices_at 2 entries in let formats = choices_at 3 entries in
-    with_entries bare_app entries ≡ beginning_app rings formats → map (λ word. word.now) rings.now ≡ codes "rx" ∷ codes "tx" ∷ []
-    → map (λ word. word.now) formats.now ≡ codes "read" ∷ codes "back" ∷ [] → IfOk program (IsJoined bare_app entries) → IfOk program (λ p. IsBeginning (app_of p))
-beginning_is entries (Ok p) same rings_are formats_are is = record {
-  rings = choices_at 2 entries;
-  formats = choices_at 3 entries;
-  rings_are = rings_are;
-  formats_are = formats_are;
-  app_is = is.app_is ∙ same;
-}
-beginning_is entries (Err e) same rings_are formats_are is = tt
+-- with its first commands
+pub beginning_is : {E : Type 0} → (entries : List CommandEntry) (program : Result Command E) → BeginProgram entries
+    → IfOk program (IsJoined bare_app entries) → IfOk program (λ p. IsBeginning (app_of p))
+beginning_is entries (Ok p) are is = subst IsBeginning (sym is.app_is) are
+beginning_is entries (Err e) are is = tt
 
 -- choices with these words, at any address
 abbrev choices : List Text → Choices
 choices words = record { ref_ptr = (0, 0); now = map (λ (word : Text). record { ref_ptr = (0, 0); now = word }) words }
 
--- with all its commands; of a beginning that failed nothing is asked
-pub program_is : {E F : Type 0} → (entries : List CommandEntry) (begun : Result Command F) (program : Result Command E)
-    → ((rings formats : Choices) → with_entries (beginning_app rings formats) entries ≡ program_app rings formats)
+-- a program to speak of where none was built
+abbrev two_rings : Choices
+two_rings = choices (codes "rx" ∷ codes "tx" ∷ [])
+
+abbrev two_formats : Choices
+two_formats = choices (codes "read" ∷ codes "back" ∷ [])
+
+some_program : IsProgram (program_app two_rings two_formats)
+some_program = record {
+  rings = two_rings;
+  formats = two_formats;
+  rings_are = refl;
+  formats_are = refl;
+  app_is = refl;
+}
+
+-- with all its commands
+pub program_is : {E F : Type 0} → (entries : List CommandEntry) (begun : Result Command F) (program : Result Command E) → CompleteProgram entries
     → IfOk begun (λ c. IsBeginning (app_of c)) → ((app : App) → IfOk begun (λ c. app_of c ≡ app) → IfOk program (IsJoined app entries))
     → IfOk program (λ p. IsProgram (app_of p))
 program_is entries (Ok b) (Ok p) same is joined = record {
@@ -104,12 +112,36 @@ program_is entries (Ok b) (Ok p) same is joined = record {
   formats_are = is.formats_are;
   app_is = (joined (beginning_app is.rings is.formats) is.app_is).app_is ∙ same is.rings is.formats;
 }
-program_is entries (Err e) (Ok p) same is joined = record {
-  rings = choices (codes "rx" ∷ codes "tx" ∷ []);
-  formats = choices (codes "read" ∷ codes "back" ∷ []);
-  rings_are = refl;
-  formats_are = refl;
-  app_is = (joined (beginning_app (choices (codes "rx" ∷ codes "tx" ∷ [])) (choices (codes "read" ∷ codes "back" ∷ []))) tt).app_is
-      ∙ same (choices (codes "rx" ∷ codes "tx" ∷ [])) (choices (codes "read" ∷ codes "back" ∷ []));
-}
+program_is entries (Err e) (Ok p) same is joined =
+    subst IsProgram (sym ((joined (beginning_app two_rings two_formats) tt).app_is ∙ same two_rings two_formats)) some_program
 program_is entries begun (Err e) same is joined = tt
+
+-- ---- parsed words
+
+pub parsed_by : (app : App) (words : List Text) (result : Result ArgMatches Error) → IsProgram app → IfOk result (HasMatchesOf app words)
+    → IfErr result (λ e. takes app words ≡ true → kind_of e ≡ OutOfMemory) → (is_simple_and_free app ≡ true → FailsBy (fault_of app words) result) → AreParsed words result
+parsed_by app words (Ok m) program matches passes kinds = record {
+  app = app;
+  program = program;
+  rows = (matches (simple app program)).1;
+  passes = tt;
+  kinds = kinds (free app program);
+}
+parsed_by app words (Err e) program matches passes kinds = record {
+  app = app;
+  program = program;
+  rows = tt;
+  passes = passes;
+  kinds = kinds (free app program);
+}
+
+-- where there was no memory for the program
+pub unbuilt : (words : List Text) (result : Result ArgMatches Error) → IsErrAnd result (λ e. kind_of e ≡ OutOfMemory) → AreParsed words result
+unbuilt words (Ok m) none = absurd none
+unbuilt words (Err e) none = record {
+  app = program_app two_rings two_formats;
+  program = some_program;
+  rows = tt;
+  passes = λ taken. none;
+  kinds = inl none;
+}

@@ -3,6 +3,7 @@ use Rattle.std.specs.Prelude.{◌≡◌, false, List, fold, map, Result, IsOkAnd
 use Rattle.clap.specs.Words.{App, Rule, app_of, with_rule, with_subcommand}
 use Rattle.clap.specs.declared.builder.command.Command.{Command}
 use Rattle.clap.specs.declared.builder.command.Command.TheViews.{out-Command}
+use Rattle.command_line.specs.CommandLine.{Choices, IsBeginning, bare_app, beginning_app, program_app}
 use Rattle.command_line.specs.OptionWords.{with_rules}
 use Rattle.command_line.specs.Params.{rule_for}
 use Rattle.command_line.specs.declared.building.CommandEntry.{CommandEntry}
@@ -14,6 +15,13 @@ entry_app entry = with_rules entry.name.now (map rule_for entry.params.now)
 -- a program with the commands of entries added
 abbrev pub with_entries : App → List CommandEntry → App
 with_entries start entries = fold (λ app entry. with_subcommand app (entry_app entry).top) start entries
+
+-- entries of the first commands of the program, and of the others
+abbrev pub BeginProgram : List CommandEntry → Type 0
+BeginProgram entries = IsBeginning (with_entries bare_app entries)
+
+abbrev pub CompleteProgram : List CommandEntry → Type 0
+CompleteProgram entries = (rings formats : Choices) → with_entries (beginning_app rings formats) entries ≡ program_app rings formats
 
 pub record IsJoined (start : App) (entries : List CommandEntry) (command : Command) : Type 0 where
   pub app_is : app_of command ≡ with_entries start entries

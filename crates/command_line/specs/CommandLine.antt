@@ -1,7 +1,9 @@
 -- The program's command line as clap reads it.
-use Rattle.std.specs.Prelude.{◌≡◌, ◌≢◌, Bool, true, false, not, ◌&&◌, List, [], ◌∷◌, ◌++◌, codes, fold, map, slice_index, Some, All}
+use Rattle.std.specs.Prelude.{◌≡◌, ◌≢◌, Bool, true, false, not, ◌&&◌, List, [], ◌∷◌, ◌++◌, codes, fold, map, slice_index, Some, All, Result, IfOk, IfErr}
 use Rattle.std.specs.Borrow.{Bor}
-use Rattle.clap.specs.Words.{App, Kinds, Row, Rule, Text, fault_of, first_of, new_app, new_rule, with_subcommand}
+use Rattle.clap.specs.Words.{App, FailsBy, Kinds, Row, Rule, Text, fault_of, first_of, kind_of, new_app, new_rule, subcommand_of, subcommand_rows_of, takes, with_subcommand}
+use Rattle.clap.specs.declared.error.Error.{Error}
+use Rattle.clap.specs.declared.parser.matches.ArgMatches.{ArgMatches}
 use Rattle.clap.specs.declared.builder.value_parser.ValueParser.TheVariants.{Names}
 use Rattle.clap.specs.declared.error.kind.ErrorKind.{ErrorKind}
 use Rattle.clap.specs.declared.error.kind.ErrorKind.TheVariants.{DisplayHelp, DisplayVersion, OutOfMemory}
@@ -109,6 +111,14 @@ IsProgram = IsMade program_app
 -- the same for the program with its first commands
 abbrev pub IsBeginning : App → Type 0
 IsBeginning = IsMade beginning_app
+
+-- what the program's command line makes of words: the rows of a command, or an error of a kind that fits
+pub record AreParsed (words : List Text) (result : Result ArgMatches Error) : Type 0 where
+  pub app : App
+  pub program : IsProgram app
+  pub rows : IfOk result (λ m. subcommand_rows_of m ≡ subcommand_of app words)
+  pub passes : IfErr result (λ e. takes app words ≡ true → kind_of e ≡ OutOfMemory)
+  pub kinds : FailsBy (fault_of app words) result
 
 -- the words are `once` and its argument, which does not begin with a hyphen
 pub record SaysOnce (words : List Text) (digits : Text) : Type 0 where

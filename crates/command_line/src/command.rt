@@ -16,7 +16,7 @@ use crate::captures::{from_capture_in, to_capture_in};
 use crate::drivers::driver_fault_in;
 use crate::lists::lists_in;
 use crate::mistakes::{completed, error_of};
-use crate::program::program;
+use crate::program::matches_of;
 use crate::reading::{flag_in, number_in, word_in};
 use crate::showing::shown_in;
 use clap::error::ErrorKind;
@@ -94,8 +94,7 @@ fn parsed<'a>(alloc: Global, words: &'a [String]) -> Result<Asked<'a>, Error>
     ensures misuse { IsMisuse (map string_bytes words.entry.now)
         → IsErrAnd result (λ e. (kind_of e ≡ OutOfMemory) ⊎ IsMistake (kind_of e)) }
 {
-    let mut program = program(alloc)?;
-    let matches = program.try_get_matches_from_mut(words)?;
+    let matches = matches_of(alloc, words)?;
     match asked_in(&matches) {
         Some(asked) => Ok(asked),
         None => Err(fault(alloc, &matches)),

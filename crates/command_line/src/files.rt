@@ -9,7 +9,7 @@ ghost use Rattle.command_line.specs.CommandLine.{SaysForward};
 ghost use Rattle.command_line.specs.FileWords.{AreFiles, AreTold, FileOptions, HasFiles, HoldsFiles, file_values, lacks_captures};
 
 use crate::mistakes::error_of;
-use crate::program::program;
+use crate::program::matches_of;
 use crate::reading::reading_in;
 use capture::ReadOptions;
 use clap::error::ErrorKind;
@@ -41,8 +41,7 @@ pub fn files_of<'a>(alloc: Global, words: &'a [String]) -> Result<ForwardFiles<'
     ensures { (config : ForwardConfig) (printing : Printed) (files : FileOptions) → SaysForward (map string_bytes words.entry.now) config printing files
         → MatchResult result (λ held. HoldsFiles held files) (λ e. kind_of e ≡ OutOfMemory) }
 {
-    let mut program = program(alloc)?;
-    let matches = program.try_get_matches_from_mut(words)?;
+    let matches = matches_of(alloc, words)?;
     match files_in(alloc, &matches)? {
         Some(files) => Ok(files),
         None => Err(fault(alloc, &matches)),

@@ -5,7 +5,7 @@ ghost use Rattle.clap.specs.declared.error.kind.ErrorKind.TheVariants.{OutOfMemo
 
 use crate::arguments::Param;
 use crate::building::{CommandEntry, made};
-use crate::program::{FIRST, SECOND, program};
+use crate::program::{first, program, second};
 use clap::error::ErrorKind;
 use clap::{Command, Error};
 use std::alloc::{AllocError, Global};
@@ -48,20 +48,10 @@ fn named<'a>(alloc: Global, name: &str) -> Result<Command<'a>, AllocError> {
 
 /// Returns the entry of the command with this name.
 fn entry_of(name: &str) -> Option<&'static CommandEntry<'static>> {
-    match first_entry(name) {
+    match entry_in(first(), name) {
         Some(entry) => Some(entry),
-        None => second_entry(name),
+        None => entry_in(second(), name),
     }
-}
-
-/// Returns the entry, if it is in the first list.
-fn first_entry(name: &str) -> Option<&'static CommandEntry<'static>> {
-    entry_in(FIRST, name)
-}
-
-/// Returns the entry, if it is in the second list.
-fn second_entry(name: &str) -> Option<&'static CommandEntry<'static>> {
-    entry_in(SECOND, name)
 }
 
 /// Returns the entry with this name among these.

@@ -1,12 +1,13 @@
 //! The program's commands and their parameters.
-ghost use Rattle.std.specs.Prelude.{◌≡◌, IfOk};
+ghost use Rattle.std.specs.Prelude.{◌≡◌, IfOk, map};
+ghost use Rattle.std.specs.String.{string_bytes};
 ghost use Rattle.clap.specs.Words.{App, app_of};
-ghost use Rattle.command_line.specs.Building.{IsJoined};
-ghost use Rattle.command_line.specs.CommandLine.{IsBeginning, IsProgram, bare_app};
+ghost use Rattle.command_line.specs.Building.{BeginProgram, CompleteProgram, IsJoined};
+ghost use Rattle.command_line.specs.CommandLine.{AreParsed, IsBeginning, IsProgram, bare_app};
 
 use crate::arguments::Param;
 use crate::building::{CommandEntry, having, made};
-use clap::Command;
+use clap::{ArgMatches, Command, Error};
 use std::alloc::{AllocError, Global};
 
 /// The version that `--version` prints.
@@ -49,7 +50,7 @@ const EXPLAIN: Param = Param::Flag {
 };
 
 /// The commands, each with its parameters.
-pub(crate) const FIRST: &[CommandEntry] = &[
+const FIRST: &[CommandEntry] = &[
     CommandEntry {
         name: "once",
         about: "Pass one frame through a receive ring of 8 descriptors and print it",
@@ -121,7 +122,7 @@ pub(crate) const FIRST: &[CommandEntry] = &[
 ];
 
 /// The commands that forward or convert frames, or print lists of moves.
-pub(crate) const SECOND: &[CommandEntry] = &[
+const SECOND: &[CommandEntry] = &[
     CommandEntry {
         name: "forward",
         about: "Forward the frames of a script between two ports, and print the frames that left and the counts of each flow. The script is read from standard input, one frame per line; with --capture, only if standard input is not a terminal and no capture",
@@ -309,19 +310,40 @@ pub(crate) const SECOND: &[CommandEntry] = &[
     },
 ];
 
-/// Builds the program with all its commands. Each half is added by a function of its own, because the prover writes out
-/// the list of a function whole.
+/// The first commands. No other function names the list, because the prover writes it out in each that does.
+pub(crate) fn first() -> &'static [CommandEntry<'static>]
+    ensures { BeginProgram result.now }
+{
+    FIRST
+}
+
+/// The other commands, likewise.
+pub(crate) fn second() -> &'static [CommandEntry<'static>]
+    ensures { CompleteProgram result.now }
+{
+    SECOND
+}
+
+/// Parses the words after the program's name. Returns an error of `clap` if they are mistaken, if they ask for help or
+/// the version, or if memory is missing.
+pub(crate) fn matches_of<'a>(alloc: Global, words: &'a [String]) -> Result<ArgMatches<'a>, Error>
+    ensures { AreParsed (map string_bytes words.entry.now) result }
+{
+    program(alloc)?.try_get_matches_from(words)
+}
+
+/// Builds the program with all its commands.
 pub(crate) fn program<'a>(alloc: Global) -> Result<Command<'a>, AllocError>
     ensures { IfOk result (λ c. IsProgram (app_of c)) }
 {
-    joined(alloc, beginning(alloc), SECOND)
+    joined(alloc, beginning(alloc), second())
 }
 
 /// Builds the program with its first commands.
 fn beginning<'a>(alloc: Global) -> Result<Command<'a>, AllocError>
     ensures { IfOk result (λ c. IsBeginning (app_of c)) }
 {
-    joined(alloc, bare(alloc), FIRST)
+    joined(alloc, bare(alloc), first())
 }
 
 /// Adds these commands to a program.
