@@ -14,9 +14,10 @@ use Rattle.refusals.specs.declared.errors.CtlError.{CtlError}
 use Rattle.refusals.specs.declared.errors.CtlError.TheVariants.{FrameLength, Memory}
 use Rattle.controller.specs.declared.offer.Offer.{Offer}
 use Rattle.controller.specs.declared.offer.Offer.TheVariants.{Off, Oversize, Stored, Dropped, Held}
-use Rattle.controller.specs.declared.tally.Tally.{Tally}
+use Rattle.counters.specs.declared.tally.Tally.{Tally}
+use Rattle.counters.specs.Kinds.{AddsUp}
 use Rattle.controller.specs.Chained.{Chained}
-use Rattle.controller.specs.Tallying.{AddsUp, counted}
+use Rattle.controller.specs.Tallying.{counted}
 
 -- The end, the number of bytes to which it fills buffers, whether it drops frames if too few descriptors are free, and
 -- its tally.

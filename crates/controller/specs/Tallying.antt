@@ -1,20 +1,12 @@
 -- The counts of a tally.
-use Rattle.std.specs.Prelude.{◌≡◌, ℕ, ◌+◌, nat_lt, if◌then◌else◌}
+use Rattle.std.specs.Prelude.{ℕ, ◌+◌, nat_lt, if◌then◌else◌}
 use Rattle.controller.specs.declared.offer.Offer.{Offer}
 use Rattle.controller.specs.declared.offer.Offer.TheVariants.{Off, Oversize, Stored, Dropped, Held}
-use Rattle.controller.specs.declared.tally.Tally.{Tally}
+use Rattle.counters.specs.declared.tally.Tally.{Tally}
 
 -- The greatest u64.
 abbrev pub most_count : ℕ
 most_count = 18446744073709551615
-
--- Nothing was offered yet.
-abbrev pub nothing : Tally
-nothing = record { offered = 0; stored = 0; dropped = 0; oversize = 0 }
-
--- Each offered frame was stored, dropped or oversize.
-abbrev pub AddsUp : Tally → Type 0
-AddsUp t = t.offered ≡ t.stored + t.dropped + t.oversize
 
 -- One more frame, unless the number of frames has reached the greatest count: then no count changes.
 abbrev pub exact : Tally → Tally → Tally

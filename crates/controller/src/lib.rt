@@ -1,6 +1,6 @@
 //! The device's side of a queue pair: a controller of a receive ring, and one of a transmit ring.
-//! Depends on `shared_ring`, `rx_ring`, `tx_ring`, `ring_model`, `ring_laws`, `buffer_pool`, `descriptor`, `limits` and
-//! `refusals`.
+//! Depends on `shared_ring`, `rx_ring`, `tx_ring`, `ring_model`, `ring_laws`, `buffer_pool`, `descriptor`, `counters`,
+//! `limits` and `refusals`.
 //! Guarantees that the stored frames grow by exactly the frames reported as `Stored`, and the wire by exactly the
 //! frames sent.
 //!
@@ -19,10 +19,10 @@ mod tally;
 mod transmitting;
 mod wire;
 
+pub use counters::Tally;
 pub use limits::is_fill_size;
 pub use offer::Offer;
 pub use receiving::RxController;
 pub use refusals::CtlError;
-pub use tally::Tally;
 pub use transmitting::{Turn, TxController};
 pub use wire::{Frames, Wire};

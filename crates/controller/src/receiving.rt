@@ -7,12 +7,13 @@ ghost use Rattle.rx_ring.specs.Ends.{controller_state, stored, seen, is_quiet};
 ghost use Rattle.limits.specs.FillSize.{IsFillSize};
 ghost use Rattle.controller.specs.Handshaking.{TurnedControl, begins};
 ghost use Rattle.controller.specs.Receiving.{IsIdle, Offered, Finished, frames_by, may_store};
-ghost use Rattle.controller.specs.Tallying.{AddsUp, nothing};
+ghost use Rattle.counters.specs.Kinds.{AddsUp, nothing};
 
 use crate::control::answer;
 use crate::offer::Offer;
 use crate::storing::decide;
-use crate::tally::Tally;
+use crate::tally::counted;
+use counters::Tally;
 use limits::{LEAST_FRAME, MOST_FRAME};
 use refusals::CtlError;
 use rx_ring::{Control, ControllerEnd, RxControllerEnd, RxRing};
@@ -93,7 +94,7 @@ impl RxController {
             Offer::Held
         };
         let offer = decide(ring, &mut self.end, self.bsize, frame, scarce);
-        self.tally = self.tally.counted(offer);
+        self.tally = counted(self.tally, offer);
         Ok(offer)
     }
 

@@ -1,5 +1,5 @@
 -- Each step keeps the rule of a cell.
-use Rattle.std.proofs.Common.{◌≡◌, ◌≢◌, ◌∙◌, ℕ, zero, suc, true, List, [], ◌∷◌, ◌++◌, set, refl, sym, ap, subst, ⊎_elim, arith}
+use Rattle.std.proofs.Common.{◌≡◌, ◌≢◌, ◌∙◌, ℕ, zero, suc, true, List, [], ◌∷◌, ◌++◌, drop, set, refl, sym, ap, subst, ⊎_elim, arith}
 use Rattle.std.proofs.lemmas.Bool.{false≢true}
 use mathlib.Core.Option.{some, some-ne-none, some-injective}
 use lib.ListN.{get_elem?}
@@ -71,6 +71,13 @@ module _ {T : Type 0} (words : T → List ℕ) (lawful : T → Type 0) where
   goes_on_falls old earlier now before are on = subst (λ (l : List T). NoneFalls (words old) (words (head_of old l))) (sym on.1)
       (falls_to_newest on.0 old earlier (subst (λ (l : List T). AreSnapshots words lawful l) on.1 are))
 
+  -- a view that knows all moments knows the newest
+  known_all : (old : CellKnowledge T) (x : T) (before : List T) → snapshots_of old ≡ x ∷ before → (x ≡ old.last) × (known old.writes x before ≡ old)
+  known_all old x before all =
+      let same : x ≡ old.last = sym (ap (head_of x) all) in
+      let earlier : before ≡ old.earlier = sym (ap (drop 1) all) in
+      (same, ap (λ (y : T). known old.writes y before) same ∙ ap (known old.writes old.last) earlier)
+
   pub reads : (pass : ℕ) (old : CellKnowledge T) → Turns (HoldsSeqCellRule words lawful) pass old (λ x. x) (HasRead words lawful)
   reads pass old x all h at =
       let new : CellKnowledge T = known old.writes x h.before in (
@@ -82,7 +89,7 @@ module _ {T : Type 0} (words : T → List ℕ) (lawful : T → Type 0) where
           pen = λ p k e writes. ⊎_elim (λ (t : (p ≡ pass) × (new ≡ k)). sym (ap (λ (z : CellKnowledge T). snapshots_of z) t.1)) (λ (t : (p ≢ pass) × (get_elem? all p ≡ some k)). h.pen p k t.1 writes) (at_set all pass p new k e);
           one = one_set all pass old new at refl h.one;
         },
-        record { writes = refl; now = refl; later = h.each pass old at; lawful_now = h.snapshots.0; none_falls = goes_on_falls old.last old.earlier x h.before h.snapshots (h.each pass old at) },
+        record { writes = refl; now = refl; later = h.each pass old at; lawful_now = h.snapshots.0; none_falls = goes_on_falls old.last old.earlier x h.before h.snapshots (h.each pass old at); knows = λ is. known_all old x h.before (h.pen pass old at is) },
       )
 
   pub writes : (pass : ℕ) (old : CellKnowledge T) (x : T) → old.writes ≡ true → lawful x → NoneFalls (words old.last) (words x) → Turns (HoldsSeqCellRule words lawful) pass old (λ _. x) (HasWritten words lawful)

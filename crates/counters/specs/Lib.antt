@@ -4,3 +4,4 @@ pub mod Snapshots
 pub mod Rule
 pub mod Viewed
 pub mod Cells
+pub mod FlowCounters

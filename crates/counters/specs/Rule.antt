@@ -34,13 +34,15 @@ module _ {T : Type 0} (words : T → List ℕ) (lawful : T → Type 0) where
     pub pen : (pass : ℕ) (k : CellKnowledge T) → get_elem? knows pass ≡ some k → k.writes ≡ true → snapshots_of k ≡ now ∷ before
     pub one : (p q : ℕ) (j k : CellKnowledge T) → get_elem? knows p ≡ some j → get_elem? knows q ≡ some k → j.writes ≡ true → k.writes ≡ true → p ≡ q
 
-  -- A read: the view's knowledge continues from what it knew, up to the moment in the words.
+  -- A read: the view's knowledge continues from what it knew, up to the moment in the words. The view that writes knows
+  -- that moment.
   pub record HasRead (old : CellKnowledge T) (x y : T) (new : CellKnowledge T) : Type 0 where
     pub writes : new.writes ≡ old.writes
     pub now : new.last ≡ y
     pub later : GoesOn (snapshots_of old) (snapshots_of new)
     pub lawful_now : lawful y
     pub none_falls : NoneFalls (words old.last) (words y)
+    pub knows : old.writes ≡ true → (y ≡ old.last) × (new ≡ old)
 
   -- A write: one more moment.
   abbrev pub HasWritten : CellKnowledge T → T → T → CellKnowledge T → Type 0

@@ -109,6 +109,16 @@ impl<T: Snapshot<N>, const N: usize> SnapshotCell<T, N> {
         self.numbers.read(rt, &mut pass.view)
     }
 
+    /// Reads the numbers that the pen wrote last, or those of the opening.
+    pub fn last<R: Wait>(&self, rt: &R, pen: &mut SnapshotPen<T, N>) -> T
+        requires own { pen.old.cell ≡ self.now }
+        ensures same { pen.new ≡ pen.old }
+        ensures value { result ≡ pen.old.last }
+        ensures lawful { T.lawful result }
+    {
+        self.numbers.read(rt, &mut pen.view)
+    }
+
     /// Another pass, which knows what this one has read. Either may move to another thread.
     pub fn split(&self, pass: &mut SnapshotPass<T>) -> SnapshotPass<T>
         requires own { pass.old.cell ≡ self.now }

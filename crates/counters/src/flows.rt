@@ -1,6 +1,6 @@
 //! The cells of flows.
 ghost use Rattle.std.specs.Prelude.{◌≡◌, vec_len, IfOk, IfErr};
-ghost use Rattle.counters.specs.Paired.{ArePaired, IsFresh};
+ghost use Rattle.counters.specs.Paired.{ArePaired, ArePensOf, IsFresh};
 ghost use Rattle.refusals.specs.declared.errors.CounterError.TheVariants.{Memory};
 
 use crate::{DriveCell, DrivePen, StatCell, StatPen};
@@ -32,6 +32,7 @@ impl FlowCells {
         ensures refused { IfErr result (λ e. e ≡ Memory) }
         ensures count { IfOk result (λ made. vec_len made.0 ≡ count) }
         ensures pens { IfOk result (λ made. ArePaired made.0.items made.1.items) }
+        ensures own { IfOk result (λ made. ArePensOf made.0.items made.1.items) }
     {
         let mut cells = Vec::with_capacity(alloc, count)?;
         let mut pens = Vec::with_capacity(alloc, count)?;

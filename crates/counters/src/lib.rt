@@ -18,19 +18,28 @@
 //! likewise.
 #![tactic(auto)]
 
+mod bytes;
 mod cell;
+mod driven;
+mod flow_counters;
 mod flows;
 mod kinds;
 mod numbers;
 mod rule;
 mod snapshot;
+mod tally;
+mod totals;
 
+pub use bytes::Bytes;
 pub use cell::{SnapshotCell, SnapshotPass, SnapshotPen};
+pub use driven::Driven;
+pub use flow_counters::{Counter, FLOW_COUNTERS, FlowCounters};
 pub use flows::{FlowCells, FlowPens};
 pub use kinds::{
-    ByteCell, BytePass, BytePen, Bytes, DriveCell, DrivePass, DrivePen, Driven, Offered, StatCell,
-    StatPass, StatPen,
+    ByteCell, BytePass, BytePen, DriveCell, DrivePass, DrivePen, StatCell, StatPass, StatPen,
 };
 pub use numbers::{CellHolder, Numbers};
 pub use refusals::CounterError;
 pub use snapshot::Snapshot;
+pub use tally::Tally;
+pub use totals::Totals;

@@ -93,6 +93,7 @@ impl<T: Snapshot<N>, const N: usize> Numbers<T, N> {
         ensures later { GoesOn (all_of view.old) (all_of view.new) }
         ensures lawful { T.lawful result }
         ensures none_falls { NoneFalls (T.words view.old.last) (T.words result) }
+        ensures last { view.old.writes ≡ true → (result ≡ view.old.last) × (view.new ≡ view.old) }
     {
         may_read::<T, N>(&view.pass);
         self.words.load_as::<Reads<N>, R>(rt, &mut view.pass)

@@ -4,7 +4,7 @@ ghost use Rattle.counters.specs.Paired.{ArePaired, IsFresh};
 
 use crate::outcome::both;
 use anyhow::Result;
-use counters::{CounterError, DriveCell, FlowCells, FlowPens, Offered, StatCell, StatPass};
+use counters::{CounterError, DriveCell, FlowCells, FlowPens, StatCell, StatPass, Tally};
 use forwarder::{Config, Report, forward_watched};
 use forwarding::{ForwardError, Open};
 use std::alloc::{AllocError, Global};
@@ -19,7 +19,7 @@ const READS: u32 = 10_000_000;
 /// The counters of a flow that were read last, and how many of its frames went out.
 #[derive(Clone, Copy, Debug)]
 pub struct Seen {
-    pub offered: Offered,
+    pub offered: Tally,
     pub sent: usize,
 }
 
@@ -38,7 +38,7 @@ fn cells_of_one(alloc: Global) -> Result<(FlowCells, FlowPens, StatPass), Counte
 }
 
 /// Reads until `count` frames were offered. No number is below one that was read before.
-fn watch<R: Wait>(rt: &R, cell: &StatCell, mut pass: StatPass, count: u64) -> Offered
+fn watch<R: Wait>(rt: &R, cell: &StatCell, mut pass: StatPass, count: u64) -> Tally
     requires own { pass.cell ≡ cell.now }
 {
     let mut seen = cell.read(rt, &mut pass);

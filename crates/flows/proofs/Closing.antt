@@ -1,5 +1,5 @@
 -- What reclaiming keeps of a flow that has ended.
-use Rattle.std.proofs.Common.{◌≡◌, ◌∙◌, ⊎_elim, inl, inr, ◌≢◌, arith, ℕ, zero, suc, ◌+◌, ◌-◌, ◌%◌, ◌<◌, ◌≤◌, Bool, List, ◌++◌, length, map, ap, sym, refl, subst}
+use Rattle.std.proofs.Common.{◌≡◌, ◌∙◌, ⊎_elim, inl, inr, ◌≢◌, arith, ℕ, zero, suc, ◌+◌, ◌-◌, ◌%◌, ◌<◌, ◌≤◌, Bool, List, ◌++◌, length, map, ap, sym, refl, subst, true}
 use Rattle.std.specs.Prelude.{Option, Some, None}
 use Rattle.atomic_table.specs.Seated.{TableId}
 use Rattle.ring_model.specs.shared.Frames.{Bytes, frames}
@@ -20,15 +20,15 @@ use Rattle.driver.specs.receive.Returns.{GaveBack}
 use Rattle.driver.specs.transmit.Transmitter.{Transmitter}
 use Rattle.forwarding.specs.Driving.{Driving, driving}
 use Rattle.forwarding.specs.Touching.{touch}
-use Rattle.flows.specs.Counting.{most_exact}
+use Rattle.counters.specs.Kinds.{most_exact}
 use Rattle.flows.specs.Outputs.{Chosen}
 use Rattle.flows.specs.Keys.{DriverKey}
-use Rattle.flows.specs.declared.counts.Counts.{Counts}
+use Rattle.counters.specs.declared.driven.Driven.{Driven}
 use Rattle.flows.specs.declared.phase.Phase.{Phase}
 use Rattle.flows.specs.declared.phase.Phase.TheVariants.{EnablingTx, EnablingRx, Forwarding, Disabling, Reclaiming, Over}
 use Rattle.forwarding.specs.declared.report.Ended.{Ended}
 use Rattle.forwarding.specs.declared.report.Ended.TheVariants.{Drained, Cut}
-use Rattle.flows.specs.Driven.{AreExact, AreFull, Relayed, EndedAs, HasEnded, IsAt, IsClosing, RxStands, TxStands, taken_frames, posted_frames}
+use Rattle.flows.specs.Driven.{AreExact, AreFull, Relayed, EndedAs, HasEnded, IsAt, IsClosing, IsLastTurn, MayBeCut, RxStands, TxStands, taken_frames, posted_frames}
 
 -- how many are left is told by the head, the ring's length, and a number of segments
 rx-left : ℕ → ℕ → Option ℕ → Option ℕ
@@ -60,7 +60,7 @@ tx-same a b own posted known = tx-told b (transmit.known_of b).head
     ∙ (ap (λ (k : tx.Knowing). tx-left (transmit.driver_size a) (length (transmit.posted a)) k.head) known ∙ sym (tx-told a (transmit.known_of a).head))))
 
 -- the counts and the output, where no list grew
-pub relayed-as : (retries : Bool) (a b : receive.DriverSide) (s t : transmit.DriverSide) (c : Counts) (waiting : List Bytes) → receive.taken b ≡ receive.taken a → transmit.posted t ≡ transmit.posted s → Relayed retries a s c waiting → Relayed retries b t c waiting
+pub relayed-as : (retries : Bool) (a b : receive.DriverSide) (s t : transmit.DriverSide) (c : Driven) (waiting : List Bytes) → receive.taken b ≡ receive.taken a → transmit.posted t ≡ transmit.posted s → Relayed retries a s c waiting → Relayed retries b t c waiting
 relayed-as retries a b s t c waiting taken posted r =
     let frames_b : taken_frames b ≡ taken_frames a = ap (frames piece_of) taken in let frames_t : posted_frames t ≡ posted_frames s = ap (frames carried) posted in record {
       chosen = subst (λ (l : List Bytes). Chosen (l ++ waiting) (map touch (taken_frames b))) (sym frames_t) (subst (λ (l : List Bytes). Chosen (posted_frames s ++ waiting) (map touch l)) (sym frames_b) r.chosen);
@@ -71,25 +71,25 @@ relayed-as retries a b s t c waiting taken posted r =
       retried = r.retried;
     }
 
-ended-as : (turns : ℕ) (a b : receive.DriverSide) (s t : transmit.DriverSide) (waiting : List Bytes) (e : Ended) → receive.known_of b ≡ receive.known_of a → transmit.posted t ≡ transmit.posted s → transmit.cleaned t ≡ transmit.cleaned s → EndedAs turns a s waiting e → EndedAs turns b t waiting e
-ended-as turns a b s t waiting Drained known posted cleaned h = record {
+ended-as : (turns : ℕ) (stops : Bool) (a b : receive.DriverSide) (s t : transmit.DriverSide) (waiting : List Bytes) (e : Ended) → receive.known_of b ≡ receive.known_of a → transmit.posted t ≡ transmit.posted s → transmit.cleaned t ≡ transmit.cleaned s → EndedAs turns stops a s waiting e → EndedAs turns stops b t waiting e
+ended-as turns stops a b s t waiting Drained known posted cleaned h = record {
   quiet = ap (λ (k : rx.Knowing). k.quiet) known ∙ h.quiet;
   drained = ap (λ (k : rx.Knowing). k.drained) known ∙ h.drained;
   cleaned = subst (λ (l : List tx.Posting). length l ≤ length (transmit.cleaned t)) (sym posted) (subst (λ (l : List ℕ). length (transmit.posted s) ≤ length l) (sym cleaned) h.cleaned);
   none_waits = h.none_waits;
 }
-ended-as turns a b s t waiting Cut known posted cleaned h = h
+ended-as turns stops a b s t waiting Cut known posted cleaned h = h
 
-has-ended-as : (k : DriverKey) (d e : Driving) (c : Counts) (ended : Ended) → receive.taken e.rx.end ≡ receive.taken d.rx.end → receive.known_of e.rx.end ≡ receive.known_of d.rx.end → transmit.posted e.tx.end ≡ transmit.posted d.tx.end → transmit.cleaned e.tx.end ≡ transmit.cleaned d.tx.end
+has-ended-as : (k : DriverKey) (d e : Driving) (c : Driven) (ended : Ended) → receive.taken e.rx.end ≡ receive.taken d.rx.end → receive.known_of e.rx.end ≡ receive.known_of d.rx.end → transmit.posted e.tx.end ≡ transmit.posted d.tx.end → transmit.cleaned e.tx.end ≡ transmit.cleaned d.tx.end
     → HasEnded k d c ended → HasEnded k e c ended
 has-ended-as k d e c ended taken known posted cleaned h = record {
   waiting = h.waiting;
   relayed = relayed-as k.retries d.rx.end e.rx.end d.tx.end e.tx.end c h.waiting taken posted h.relayed;
-  ended_as = ended-as k.turns d.rx.end e.rx.end d.tx.end e.tx.end h.waiting ended known posted cleaned h.ended_as;
+  ended_as = ended-as k.turns k.stops d.rx.end e.rx.end d.tx.end e.tx.end h.waiting ended known posted cleaned h.ended_as;
 }
 
 -- the receive queue's buffers came back
-pub closing-rx : (k : DriverKey) (d : Driving) (c : Counts) (ended : Ended) (untaken unsent : ℕ) (rx' : Receiver) (stash stash' : List ℕ) (packets : List (List Buffer)) → IsClosing k d c ended (Some untaken) (Some unsent) → rx'.end.table ≡ d.rx.end.table → GaveBack d.rx stash rx' stash'
+pub closing-rx : (k : DriverKey) (d : Driving) (c : Driven) (ended : Ended) (untaken unsent : ℕ) (rx' : Receiver) (stash stash' : List ℕ) (packets : List (List Buffer)) → IsClosing k d c ended (Some untaken) (Some unsent) → rx'.end.table ≡ d.rx.end.table → GaveBack d.rx stash rx' stash'
     → IsClosing k (driving rx' d.tx stash' packets) c ended (Some untaken) (Some unsent)
 closing-rx k d c ended untaken unsent rx' stash stash' packets h own g =
     let taken = ap (λ (x : rx.RxDriven). x.reaped) g.ring.did in record {
@@ -99,7 +99,7 @@ closing-rx k d c ended untaken unsent rx' stash stash' packets h own g =
     }
 
 -- and those of the transmit queue
-pub closing-tx : (k : DriverKey) (d : Driving) (c : Counts) (ended : Ended) (untaken unsent : ℕ) (tx' : Transmitter) (stash stash' : List ℕ) (packets : List (List Buffer)) → IsClosing k d c ended (Some untaken) (Some unsent) → tx'.end.table ≡ d.tx.end.table → transmit.known_of tx'.end ≡ transmit.known_of d.tx.end
+pub closing-tx : (k : DriverKey) (d : Driving) (c : Driven) (ended : Ended) (untaken unsent : ℕ) (tx' : Transmitter) (stash stash' : List ℕ) (packets : List (List Buffer)) → IsClosing k d c ended (Some untaken) (Some unsent) → tx'.end.table ≡ d.tx.end.table → transmit.known_of tx'.end ≡ transmit.known_of d.tx.end
     → CameBack number_of_posting d.tx.end stash tx'.end stash' → IsClosing k (driving d.rx tx' stash' packets) c ended (Some untaken) (Some unsent)
 closing-tx k d c ended untaken unsent tx' stash stash' packets h own known g =
     let posted = ap (λ (x : tx.TxDriven). x.posted) g.did in record {
@@ -109,19 +109,19 @@ closing-tx k d c ended untaken unsent tx' stash stash' packets h own known g =
     }
 
 -- what is at hand plays no part in it
-pub closing-still : (k : DriverKey) (d e : Driving) (c : Counts) (ended : Ended) (untaken unsent : Option ℕ) → e.rx ≡ d.rx → e.tx ≡ d.tx → IsClosing k d c ended untaken unsent → IsClosing k e c ended untaken unsent
+pub closing-still : (k : DriverKey) (d e : Driving) (c : Driven) (ended : Ended) (untaken unsent : Option ℕ) → e.rx ≡ d.rx → e.tx ≡ d.tx → IsClosing k d c ended untaken unsent → IsClosing k e c ended untaken unsent
 closing-still k d e c ended untaken unsent rx' tx' h = record {
   rx_stands = subst (λ (r : Receiver). RxStands untaken r.end) (sym rx') h.rx_stands;
   tx_stands = subst (λ (t : Transmitter). TxStands unsent t.end) (sym tx') h.tx_stands;
   has_ended = has-ended-as k d e c ended (ap (λ (r : Receiver). receive.taken r.end) rx') (ap (λ (r : Receiver). receive.known_of r.end) rx') (ap (λ (t : Transmitter). transmit.posted t.end) tx') (ap (λ (t : Transmitter). transmit.cleaned t.end) tx') h.has_ended;
 }
 
-pub positive : (n : ℕ) → n ≢ 0 → 0 < n
-positive zero h = absurd (h refl)
-positive (suc n) h = omega arith
+-- the last turn is one, or somebody may stop the flow
+pub last-cuts : (turns made : ℕ) (stops : Bool) → IsLastTurn turns stops made → MayBeCut turns stops
+last-cuts turns made stops h = ⊎_elim (λ (e : made + 1 ≡ turns). inl (omega (arith, e))) (λ (asked : stops ≡ true). inr asked) h
 
 -- in each phase no more is posted and dropped than is taken
-pub at-rule : (k : DriverKey) (d : Driving) (c : Counts) (phase : Phase) → IsAt k d c phase → c.posted + c.tx_dropped ≤ c.taken
+pub at-rule : (k : DriverKey) (d : Driving) (c : Driven) (phase : Phase) → IsAt k d c phase → c.posted + c.tx_dropped ≤ c.taken
 at-rule k d c EnablingTx h = h.0.relayed.no_more
 at-rule k d c EnablingRx h = h.0.relayed.no_more
 at-rule k d c (Forwarding made) h = h.0.relayed.no_more

@@ -24,7 +24,7 @@ use Rattle.driver.specs.transmit.Frames.{numbers_in}
 use Rattle.driver.specs.transmit.Transmitter.{Transmitter}
 use Rattle.forwarding.specs.Driving.{Driving, driving, CanDrive, Received, Drove, HeldBack, OnlyReceived}
 use Rattle.forwarding.specs.Touching.{shapes}
-use Rattle.flows.specs.declared.counts.Counts.{Counts}
+use Rattle.counters.specs.declared.driven.Driven.{Driven}
 use Rattle.flows.specs.Keys.{DriverKey}
 use Rattle.buffer_accounting.specs.Lent.{lent, with_receiver, with_transmitter, SameNumbers}
 use Rattle.buffer_accounting.proofs.Weights.{total-lent, total-receiver}
@@ -201,7 +201,7 @@ refilled k pass pass' d stash moved l pool r = record {
   waiting = l.waiting;
 }
 
-pub forwarding-still : (k : DriverKey) (d e : Driving) (c : Counts) → e.rx ≡ d.rx → e.tx ≡ d.tx → e.packets ≡ d.packets → IsForwarding k d c → IsForwarding k e c
+pub forwarding-still : (k : DriverKey) (d e : Driving) (c : Driven) → e.rx ≡ d.rx → e.tx ≡ d.tx → e.packets ≡ d.packets → IsForwarding k d c → IsForwarding k e c
 forwarding-still k d e c rx tx packets h = record {
   rx_on = subst (λ (r : Receiver). is_on (receive.driver_state r.end) ≡ true) (sym rx) h.rx_on;
   tx_on = subst (λ (t : Transmitter). is_on (transmit.driver_state t.end) ≡ true) (sym tx) h.tx_on;

@@ -1,6 +1,7 @@
 -- What follows for a flow once both its rings' ends met.
-use Rattle.std.proofs.Common.{◌≡◌, ◌∙◌, ℕ, ◌+◌, ◌≤◌, Bool, true, false, List, [], length, map, take, ap, sym, refl, subst, arith, if◌then◌else◌, ⊎_elim, ◌⊎◌}
+use Rattle.std.proofs.Common.{◌≡◌, ◌∙◌, ℕ, ◌+◌, ◌≤◌, Bool, true, false, List, [], length, map, take, ap, sym, refl, subst, arith, if◌then◌else◌, ⊎_elim, ◌⊎◌, ◌<◌}
 use Rattle.std.specs.Prelude.{◌&&◌, Option, Some, sum_by}
+use Rattle.std.proofs.lemmas.Bool.{false≢true}
 use Rattle.std.proofs.lemmas.List.{length-map, take-append-drop, take_all}
 use Rattle.atomic_table.specs.Seated.{TableId}
 use Rattle.ring_model.specs.shared.Frames.{Bytes, frames}
@@ -19,14 +20,14 @@ use Rattle.tx_ring.specs.Ends as transmit
 use Rattle.tx_ring.specs.Meeting as transmitted
 use Rattle.tx_ring.specs.Records.{Posting}
 use Rattle.forwarding.specs.Touching.{touch}
-use Rattle.flows.specs.declared.counts.Counts.{Counts}
+use Rattle.counters.specs.declared.driven.Driven.{Driven}
 use Rattle.forwarding.specs.declared.report.Ended.{Ended}
 use Rattle.forwarding.specs.declared.report.Ended.TheVariants.{Drained, Cut}
 use Rattle.forwarding.specs.declared.report.FlowReport.{FlowReport}
 use Rattle.flows.specs.declared.concluding.DriverDone.{DriverDone}
 use Rattle.flows.specs.declared.concluding.ControllerDone.{ControllerDone}
 use Rattle.flows.specs.Outputs.{AreCut, Chosen, fitting, oversized}
-use Rattle.flows.specs.Counting.{most_exact}
+use Rattle.counters.specs.Kinds.{most_exact}
 use Rattle.flows.specs.Driven.{AreExact, AreFull, HasDriven, HasDrained, EndedAs, taken_frames, posted_frames}
 use Rattle.flows.specs.Keys.{DriverKey, ControllerKey, Plan, plan_of}
 use Rattle.flows.specs.Reports.{AreLedgers, IsDrained, IsFull, IsReport}
@@ -50,12 +51,12 @@ told : (o : Option ℕ) (left fewer more : ℕ) → o ≡ Some left → IsTold o
 told o left fewer more e t = subst (λ (x : Option ℕ). IsTold x fewer more) e t
 
 -- as few as a script has are fewer than are counted
-exactly : (rx : receive.DriverSide) (tx : transmit.DriverSide) (c : Counts) (waiting : ℕ) → length (taken_frames rx) ≤ most_exact → AreExact rx tx c waiting ⊎ AreFull rx c → AreExact rx tx c waiting
+exactly : (rx : receive.DriverSide) (tx : transmit.DriverSide) (c : Driven) (waiting : ℕ) → length (taken_frames rx) ≤ most_exact → AreExact rx tx c waiting ⊎ AreFull rx c → AreExact rx tx c waiting
 exactly rx tx c waiting few counted = ⊎_elim (λ e. e) (λ (f : AreFull rx c). let many = f.many in absurd (omega (arith, few, many))) counted
 
-uncut : (turns : ℕ) (rx : receive.DriverSide) (tx : transmit.DriverSide) (waiting : List Bytes) (e : Ended) → EndedAs turns rx tx waiting e → turns ≡ 0 → e ≡ Drained
-uncut turns rx tx waiting Drained h none = refl
-uncut turns rx tx waiting Cut h none = absurd (omega (arith, h, none))
+uncut : (turns : ℕ) (stops : Bool) (rx : receive.DriverSide) (tx : transmit.DriverSide) (waiting : List Bytes) (e : Ended) → EndedAs turns stops rx tx waiting e → turns ≡ 0 → stops ≡ false → e ≡ Drained
+uncut turns stops rx tx waiting Drained h none never = refl
+uncut turns stops rx tx waiting Cut h none never = absurd (⊎_elim (λ (some : 0 < turns). let bad : ⊥ = omega (arith, some, none) in bad) (λ (asked : stops ≡ true). false≢true (sym never ∙ asked)) h)
 
 module _ (dk : DriverKey) (ck : ControllerKey) (from to : TableId) (d : DriverDone) (s : ControllerDone) (d_from : dk.from ≡ from) (s_from : ck.input.from ≡ from) (driven : HasDriven dk d) (served : HasServed ck s)
     (quiet : receive.saw_quiet d.rx ≡ true → receive.is_quiet s.rx ≡ true)
@@ -112,11 +113,11 @@ module _ (dk : DriverKey) (ck : ControllerKey) (from to : TableId) (d : DriverDo
   tx_left = told (transmitted.told_left d.tx) d.unsent (length (transmitted.sent_now d.tx s.tx)) (length (transmit.posted d.tx)) driven.unsent left_tx
 
   abbrev pub report : FlowReport
-  report = record { offered = s.tally.offered; stored = s.tally.stored; stored_bytes = s.stored_bytes; dropped = s.tally.dropped; oversize = s.tally.oversize; taken = d.counts.taken; posted = d.counts.posted; tx_dropped = d.counts.tx_dropped; wire = s.wire; left = left; ended = d.ended }
+  report = record { tally = s.tally; stored_bytes = s.stored_bytes; driven = d.counts; wire = s.wire; left = left; ended = d.ended }
 
   module _ (is : d.ended ≡ Drained) where
     has : HasDrained d.rx d.tx driven.waiting
-    has = subst (λ (e : Ended). EndedAs dk.turns d.rx d.tx driven.waiting e) is driven.ended
+    has = subst (λ (e : Ended). EndedAs dk.turns dk.stops d.rx d.tx driven.waiting e) is driven.ended
 
     same_frames : taken_frames d.rx ≡ stored_frames
     same_frames = ap (frames piece_of) (drained has.drained ∙ stored_is)
@@ -194,6 +195,6 @@ module _ (dk : DriverKey) (ck : ControllerKey) (from to : TableId) (d : DriverDo
     no_more = driven.relayed.no_more;
     ledgers = ledgers;
     drained = is-drained;
-    never_cut = uncut dk.turns d.rx d.tx driven.waiting d.ended driven.ended;
+    never_cut = uncut dk.turns dk.stops d.rx d.tx driven.waiting d.ended driven.ended;
     full = is-full;
   }

@@ -12,7 +12,7 @@ use Rattle.ring_model.specs.shared.Segments.{piece_of}
 use Rattle.ring_model.specs.declared.states.ControllerState.{ControllerState}
 use Rattle.ring_model.specs.shared.Handshakes.{is_serving}
 use Rattle.rx_ring.specs.Ends.{controller_size, controller_state, is_quiet, stored}
-use Rattle.controller.specs.declared.tally.Tally.{Tally}
+use Rattle.counters.specs.declared.tally.Tally.{Tally}
 use Rattle.controller.specs.declared.offer.Offer.{Offer}
 use Rattle.controller.specs.declared.offer.Offer.TheVariants.{Stored, Dropped, Oversize, Held, Off}
 use Rattle.controller.specs.Receiving.{Receiving, needed, Offered, WasStored, WasDropped, WasOversize, WasHeld, WasOff, frames_by}

@@ -10,8 +10,8 @@ use Rattle.limits.specs.declared.profile.TheConstants.{MOST_BATCH}
 use Rattle.driver.specs.transmit.Transmitter.{Transmitter}
 use Rattle.forwarding.specs.Touching.{touch}
 use Rattle.forwarding.specs.Driving.{Driving, Moved, Counted, Drove, HeldBack, OnlyReceived}
-use Rattle.flows.specs.declared.counts.Counts.{Counts}
-use Rattle.flows.specs.Counting.{counted, most_exact}
+use Rattle.counters.specs.declared.driven.Driven.{Driven}
+use Rattle.counters.specs.Kinds.{counted, most_exact}
 use Rattle.flows.specs.Outputs.{Chosen}
 use Rattle.flows.specs.Driven.{AreExact, AreFull, Relayed, taken_frames, posted_frames}
 use Rattle.flows.proofs.Choosing.{chosen-both, chosen-front}
@@ -26,10 +26,10 @@ relayed-lists p p' waits waits' t t' taken posted c et ep order =
     subst (λ (l : List Bytes). Chosen l (map touch t')) front (subst (λ (l : List Bytes). Chosen ((p ++ waits) ++ map touch taken) l) back more)
 
 -- the counts: as long as there is room they grow, and from then on stay
-counted-more : (c : Counts) (a b d : ℕ) → c.taken ≤ most_exact → counted c a b d ≡ record { taken = c.taken + a; posted = c.posted + b; tx_dropped = c.tx_dropped + d }
+counted-more : (c : Driven) (a b d : ℕ) → c.taken ≤ most_exact → counted c a b d ≡ record { taken = c.taken + a; posted = c.posted + b; tx_dropped = c.tx_dropped + d }
 counted-more c a b d low = ap (λ (x : Bool). if x then c else record { taken = c.taken + a; posted = c.posted + b; tx_dropped = c.tx_dropped + d }) (le-ltb most_exact c.taken low)
 
-counted-full : (c : Counts) (a b d : ℕ) → most_exact < c.taken → counted c a b d ≡ c
+counted-full : (c : Driven) (a b d : ℕ) → most_exact < c.taken → counted c a b d ≡ c
 counted-full c a b d high = ap (λ (x : Bool). if x then c else record { taken = c.taken + a; posted = c.posted + b; tx_dropped = c.tx_dropped + d }) (lt-ltb most_exact c.taken high)
 
 le-or-lt : (n m : ℕ) → (n ≤ m) ⊎ (m < n)
@@ -43,7 +43,7 @@ pub record Added (a b d : ℕ) (rx rx' : receive.DriverSide) (tx tx' : transmit.
   pub posts : length (posted_frames tx') ≡ length (posted_frames tx) + b
   pub waits : waiting + a ≡ b + d + waiting'
 
-module _ (rx rx' : receive.DriverSide) (tx tx' : transmit.DriverSide) (c : Counts) (a b d waiting waiting' : ℕ) (added : Added a b d rx rx' tx tx' waiting waiting') where
+module _ (rx rx' : receive.DriverSide) (tx tx' : transmit.DriverSide) (c : Driven) (a b d waiting waiting' : ℕ) (added : Added a b d rx rx' tx tx' waiting waiting') where
   exact-on : c.taken ≤ most_exact → AreExact rx tx c waiting → AreExact rx' tx' (record { taken = c.taken + a; posted = c.posted + b; tx_dropped = c.tx_dropped + d }) waiting'
   exact-on low e =
       let et = e.taken in let ep = e.posted in let ea = e.all in let t = added.takes in let p = added.posts in let w = added.waits in
@@ -62,17 +62,17 @@ module _ (rx rx' : receive.DriverSide) (tx tx' : transmit.DriverSide) (c : Count
       → (AreExact rx' tx' (counted c a b d) waiting' ⊎ AreFull rx' (counted c a b d)) × ((counted c a b d).posted + (counted c a b d).tx_dropped ≤ (counted c a b d).taken) × (dropped ≡ true → (counted c a b d).tx_dropped ≡ 0)
   counts-on retries none had few kept = ⊎_elim
       (λ (low : c.taken ≤ most_exact).
-      let grown : Counts = record { taken = c.taken + a; posted = c.posted + b; tx_dropped = c.tx_dropped + d } in
+      let grown : Driven = record { taken = c.taken + a; posted = c.posted + b; tx_dropped = c.tx_dropped + d } in
       let is = counted-more c a b d low in let e = exact-on low (exactly low had) in (
-        subst (λ (x : Counts). AreExact rx' tx' x waiting' ⊎ AreFull rx' x) (sym is) (inl e),
-        subst (λ (x : Counts). x.posted + x.tx_dropped ≤ x.taken) (sym is) (let all = e.all in omega (arith, all)),
-        λ r. ap (λ (x : Counts). x.tx_dropped) is ∙ (let h = kept r in let n = none r in omega (arith, h, n)),
+        subst (λ (x : Driven). AreExact rx' tx' x waiting' ⊎ AreFull rx' x) (sym is) (inl e),
+        subst (λ (x : Driven). x.posted + x.tx_dropped ≤ x.taken) (sym is) (let all = e.all in omega (arith, all)),
+        λ r. ap (λ (x : Driven). x.tx_dropped) is ∙ (let h = kept r in let n = none r in omega (arith, h, n)),
       ))
       (λ (high : most_exact < c.taken).
       let is = counted-full c a b d high in (
-        subst (λ (x : Counts). AreExact rx' tx' x waiting' ⊎ AreFull rx' x) (sym is) (inr (full-on high had)),
-        subst (λ (x : Counts). x.posted + x.tx_dropped ≤ x.taken) (sym is) few,
-        λ r. ap (λ (x : Counts). x.tx_dropped) is ∙ kept r,
+        subst (λ (x : Driven). AreExact rx' tx' x waiting' ⊎ AreFull rx' x) (sym is) (inr (full-on high had)),
+        subst (λ (x : Driven). x.posted + x.tx_dropped ≤ x.taken) (sym is) few,
+        λ r. ap (λ (x : Driven). x.tx_dropped) is ∙ kept r,
       ))
       (le-or-lt c.taken most_exact)
 
@@ -88,7 +88,7 @@ adds old new a b m c =
     let order = sym (length-append (map bytes_of old.packets) (map touch m.taken)) ∙ (ap length m.order ∙ length-append m.posted (map bytes_of new.packets)) in
     record { takes = many_t; posts = many_q; waits = omega (arith, many_t, many_q, sum_t, sum_q, touched, order) }
 
-module _ (retries : Bool) (old new : Driving) (c : Counts) (a b : ℕ) (r : Relayed retries old.rx.end old.tx.end c (map bytes_of old.packets)) (m : Moved old new) (added : Counted a b old new) where
+module _ (retries : Bool) (old new : Driving) (c : Driven) (a b : ℕ) (r : Relayed retries old.rx.end old.tx.end c (map bytes_of old.packets)) (m : Moved old new) (added : Counted a b old new) where
   went : Chosen (posted_frames new.tx.end ++ map bytes_of new.packets) (map touch (taken_frames new.rx.end))
   went = relayed-lists (posted_frames old.tx.end) (posted_frames new.tx.end) (map bytes_of old.packets) (map bytes_of new.packets) (taken_frames old.rx.end) (taken_frames new.rx.end) m.taken m.posted r.chosen m.takes m.posts m.order
 

@@ -16,10 +16,11 @@ use Rattle.atomic_table.proofs.shared.Shared.TheSendSync as Shared
 use Rattle.crossbeam_queue.proofs.array_queue.Slotted.TheSendSync as Slotted
 use Rattle.buffer_pool.proofs.chain.Room.TheSendSync as Room
 use Rattle.ring_model.proofs.states.Completion.TheSendSync as Completion
-use Rattle.controller.proofs.tally.Tally.TheSendSync as Tally
+use Rattle.counters.proofs.tally.Tally.TheSendSync as Tally
 use Rattle.controller.proofs.wire.Wire.TheSendSync as Wire
 use Rattle.flows.proofs.queue_phase.QueuePhase.TheSendSync as QueuePhase
-use Rattle.flows.proofs.counts.Counts.TheSendSync as Counts
+use Rattle.counters.proofs.driven.Driven.TheSendSync as Driven
+use Rattle.flows.proofs.cut_rule.CutRule.TheSendSync as CutRule
 use Rattle.flows.proofs.flow_drivers.PoolPart.TheSendSync as PoolPart
 use Rattle.flows.proofs.phase.Phase.TheSendSync as Phase
 use Rattle.shared_ring.proofs.ends.ControllerPlaces.TheSendSync as ControllerPlaces
@@ -57,10 +58,10 @@ flow_drivers : IsSend (FlowDrivers.the_field).row
 flow_drivers = search (tables, Seat.the_send, Completion.the_field_send, DriverPlaces.the_field_send) depth 60 fits 20000
 
 flow_spec : (l : _) → IsSend (FlowSpec.the_row l)
-flow_spec l = search (sendable, rx_ring, tx_ring, the_pool, PoolPart.the_field_send) depth 60 fits 20000
+flow_spec l = search (sendable, rx_ring, tx_ring, the_pool, PoolPart.the_field_send, CutRule.the_field_send) depth 60 fits 20000
 
 pub controller_flow : (l : _) → IsSend (ControllerFlow.the_row l)
 controller_flow l = search (sendable, rx_source, tx_sink) depth 60 fits 20000
 
 pub driver_flow : (l : _) → IsSend (DriverFlow.the_row l)
-driver_flow l = search (sendable, flow_spec, flow_drivers, Counts.the_field_send, Phase.the_field_send) depth 60 fits 20000
+driver_flow l = search (sendable, flow_spec, flow_drivers, Driven.the_field_send, Phase.the_field_send) depth 60 fits 20000

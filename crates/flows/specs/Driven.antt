@@ -18,10 +18,10 @@ use Rattle.forwarding.specs.Driving.{Driving, driving}
 use Rattle.forwarding.specs.Touching.{touch}
 use Rattle.flows.specs.Outputs.{Chosen}
 use Rattle.flows.specs.Keys.{DriverKey}
-use Rattle.flows.specs.Counting.{most_exact}
+use Rattle.counters.specs.Kinds.{most_exact}
 use Rattle.buffer_accounting.specs.Lent.{with_receiver, with_transmitter}
 use Rattle.flows.specs.Holding.{HoldsJust, all_of}
-use Rattle.flows.specs.declared.counts.Counts.{Counts}
+use Rattle.counters.specs.declared.driven.Driven.{Driven}
 use Rattle.flows.specs.declared.flow_drivers.FlowDrivers.{FlowDrivers}
 use Rattle.flows.specs.declared.phase.Phase.{Phase}
 use Rattle.flows.specs.declared.phase.Phase.TheVariants.{EnablingTx, EnablingRx, Forwarding, Disabling, Reclaiming, Over}
@@ -36,19 +36,19 @@ abbrev pub posted_frames : transmit.DriverSide → List Bytes
 posted_frames tx = frames carried (transmit.posted tx)
 
 -- The counts are the numbers of frames. `waiting` is the number of frames that wait.
-pub record AreExact (rx : receive.DriverSide) (tx : transmit.DriverSide) (c : Counts) (waiting : ℕ) : Type 0 where
+pub record AreExact (rx : receive.DriverSide) (tx : transmit.DriverSide) (c : Driven) (waiting : ℕ) : Type 0 where
   pub taken : c.taken ≡ length (taken_frames rx)
   pub posted : c.posted ≡ length (posted_frames tx)
   pub all : c.posted + c.tx_dropped + waiting ≡ c.taken
 
 -- The counts are full: they stopped at their limit, and more frames than that were taken.
-pub record AreFull (rx : receive.DriverSide) (c : Counts) : Type 0 where
+pub record AreFull (rx : receive.DriverSide) (c : Driven) : Type 0 where
   pub full : most_exact < c.taken
   pub many : most_exact < length (taken_frames rx)
 
 -- The posted frames and then the waiting ones are touched copies of taken frames, in order, and the counts match. With
 -- `retries`, none was dropped.
-pub record Relayed (retries : Bool) (rx : receive.DriverSide) (tx : transmit.DriverSide) (c : Counts) (waiting : List Bytes) : Type 0 where
+pub record Relayed (retries : Bool) (rx : receive.DriverSide) (tx : transmit.DriverSide) (c : Driven) (waiting : List Bytes) : Type 0 where
   pub chosen : Chosen (posted_frames tx ++ waiting) (map touch (taken_frames rx))
   pub counted : AreExact rx tx c (length waiting) ⊎ AreFull rx c
   pub no_more : c.posted + c.tx_dropped ≤ c.taken
@@ -61,10 +61,13 @@ pub record HasDrained (rx : receive.DriverSide) (tx : transmit.DriverSide) (wait
   pub cleaned : length (transmit.posted tx) ≤ length (transmit.cleaned tx)
   pub none_waits : waiting ≡ []
 
--- A flow is cut only if it has a greatest number of turns.
-abbrev pub EndedAs : ℕ → receive.DriverSide → transmit.DriverSide → List Bytes → Ended → Type 0
-EndedAs turns rx tx waiting Drained = HasDrained rx tx waiting
-EndedAs turns rx tx waiting Cut = 0 < turns
+-- A flow may be cut if it has a greatest number of turns, or if somebody may stop it.
+abbrev pub MayBeCut : ℕ → Bool → Type 0
+MayBeCut turns stops = (0 < turns) ⊎ (stops ≡ true)
+
+abbrev pub EndedAs : ℕ → Bool → receive.DriverSide → transmit.DriverSide → List Bytes → Ended → Type 0
+EndedAs turns stops rx tx waiting Drained = HasDrained rx tx waiting
+EndedAs turns stops rx tx waiting Cut = MayBeCut turns stops
 
 -- The end changed by posting and publishing alone.
 pub record OnlyPosted (old new : receive.DriverSide) : Type 0 where
@@ -110,13 +113,13 @@ pub record HasDriven (k : DriverKey) (d : DriverDone) : Type 0 where
   pub tx_over : is_open (transmit.driver_state d.tx) ≡ false
   pub untaken : received.told_left d.rx ≡ Some d.untaken
   pub unsent : transmitted.told_left d.tx ≡ Some d.unsent
-  pub ended : EndedAs k.turns d.rx d.tx waiting d.ended
+  pub ended : EndedAs k.turns k.stops d.rx d.tx waiting d.ended
 
 -- The waiting frames are those of the moment when the flow ended.
-pub record HasEnded (k : DriverKey) (d : Driving) (c : Counts) (ended : Ended) : Type 0 where
+pub record HasEnded (k : DriverKey) (d : Driving) (c : Driven) (ended : Ended) : Type 0 where
   pub waiting : List Bytes
   pub relayed : Relayed k.retries d.rx.end d.tx.end c waiting
-  pub ended_as : EndedAs k.turns d.rx.end d.tx.end waiting ended
+  pub ended_as : EndedAs k.turns k.stops d.rx.end d.tx.end waiting ended
 
 -- Both drivers are those of the flow's rings. The pass has its share, and holds exactly the buffers that are with the
 -- drivers, in the stash and in the waiting packets.
@@ -133,22 +136,22 @@ abbrev pub driving_of : FlowDrivers → Driving
 driving_of l = driving l.rx l.tx l.stash l.packets.items
 
 -- What is known in each phase. Enabling the receive queue is asked only after the transmit queue was seen enabled.
-pub record IsOpening (k : DriverKey) (d : Driving) (c : Counts) : Type 0 where
+pub record IsOpening (k : DriverKey) (d : Driving) (c : Driven) : Type 0 where
   pub rx_open : is_open (receive.driver_state d.rx.end) ≡ true
   pub tx_open : is_open (transmit.driver_state d.tx.end) ≡ true
   pub relayed : Relayed k.retries d.rx.end d.tx.end c (map bytes_of d.packets)
 
-pub record IsForwarding (k : DriverKey) (d : Driving) (c : Counts) : Type 0 where
+pub record IsForwarding (k : DriverKey) (d : Driving) (c : Driven) : Type 0 where
   pub rx_on : is_on (receive.driver_state d.rx.end) ≡ true
   pub tx_on : is_on (transmit.driver_state d.tx.end) ≡ true
   pub relayed : Relayed k.retries d.rx.end d.tx.end c (map bytes_of d.packets)
 
-pub record IsClosing (k : DriverKey) (d : Driving) (c : Counts) (ended : Ended) (untaken unsent : Option ℕ) : Type 0 where
+pub record IsClosing (k : DriverKey) (d : Driving) (c : Driven) (ended : Ended) (untaken unsent : Option ℕ) : Type 0 where
   pub rx_stands : RxStands untaken d.rx.end
   pub tx_stands : TxStands unsent d.tx.end
   pub has_ended : HasEnded k d c ended
 
-abbrev pub IsAt : DriverKey → Driving → Counts → Phase → Type 0
+abbrev pub IsAt : DriverKey → Driving → Driven → Phase → Type 0
 IsAt k d c EnablingTx = IsOpening k d c × (is_new (receive.driver_state d.rx.end) ≡ true)
 IsAt k d c EnablingRx = IsOpening k d c × (is_on (transmit.driver_state d.tx.end) ≡ true)
 IsAt k d c (Forwarding made) = IsForwarding k d c × (k.turns ≢ 0 → made < k.turns)
@@ -161,13 +164,17 @@ abbrev pub without_turns : Phase → Phase
 without_turns (Forwarding made) = Forwarding 0
 without_turns phase = phase
 
+-- The turn that follows `made` others is the last: the flow may make no more, or somebody may have stopped it.
+abbrev pub IsLastTurn : ℕ → Bool → ℕ → Type 0
+IsLastTurn turns stops made = (made + 1 ≡ turns) ⊎ (stops ≡ true)
+
 -- The phase after a turn of an enabled flow that made `made` turns before: the next turn, or the end. The last of its
 -- turns cuts the flow.
-abbrev pub GoesTo : ℕ → ℕ → Phase → Type 0
-GoesTo turns made (Forwarding next) = ((turns ≡ 0) × (next ≡ made)) ⊎ ((made + 1 < turns) × (next ≡ made + 1))
-GoesTo turns made (Disabling Drained untaken unsent) = (untaken ≡ None) × (unsent ≡ None)
-GoesTo turns made (Disabling Cut untaken unsent) = (made + 1 ≡ turns) × (untaken ≡ None) × (unsent ≡ None)
-GoesTo turns made _ = ⊥
+abbrev pub GoesTo : ℕ → Bool → ℕ → Phase → Type 0
+GoesTo turns stops made (Forwarding next) = ((turns ≡ 0) × (next ≡ made)) ⊎ ((made + 1 < turns) × (next ≡ made + 1))
+GoesTo turns stops made (Disabling Drained untaken unsent) = (untaken ≡ None) × (unsent ≡ None)
+GoesTo turns stops made (Disabling Cut untaken unsent) = IsLastTurn turns stops made × (untaken ≡ None) × (unsent ≡ None)
+GoesTo turns stops made _ = ⊥
 
 abbrev pub is_over : Phase → Bool
 is_over (Over left) = true
@@ -186,10 +193,10 @@ pub record Relaying : Type 0 where
   pub pass : Passed
   pub driving : Driving
   pub short : ℕ
-  pub counts : Counts
+  pub counts : Driven
   pub phase : Phase
 
-abbrev pub relaying : DriverKey → FlowDrivers → Counts → Phase → Relaying
+abbrev pub relaying : DriverKey → FlowDrivers → Driven → Phase → Relaying
 relaying k l c phase = record { key = k; pass = l.pass; driving = driving_of l; short = l.short; counts = c; phase = phase }
 
 -- Before buffers go back, each one of the greatest number is held, or may still be taken.

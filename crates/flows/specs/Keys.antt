@@ -6,7 +6,8 @@ use Rattle.ring_model.specs.shared.Frames.{Bytes}
 use Rattle.wire_script.specs.Frame.{Frame}
 
 -- The driver's side: the flow's number, its two rings, its pool and its pass's share of it, the greatest number of buffers
--- that it holds, whether packets that could not be posted are kept, and after how many turns it is cut (0: never).
+-- that it holds, whether packets that could not be posted are kept, after how many turns it is cut (0: never), and whether
+-- somebody may stop it.
 pub record DriverKey : Type 0 where
   pub number : ℕ
   pub from : TableId
@@ -16,6 +17,7 @@ pub record DriverKey : Type 0 where
   pub most : ℕ
   pub retries : Bool
   pub turns : ℕ
+  pub stops : Bool
 
 -- The input: its ring, the flow's frames, the number of bytes to which buffers are filled, and whether frames are
 -- dropped.
@@ -39,9 +41,10 @@ pub record Plan : Type 0 where
   pub drops : Bool
   pub retries : Bool
   pub turns : ℕ
+  pub stops : Bool
 
 abbrev pub plan_of : DriverKey → ControllerKey → Plan
-plan_of d c = record { frames = c.input.frames; size = d.from.slots; fill = c.input.fill; drops = c.input.drops; retries = d.retries; turns = d.turns }
+plan_of d c = record { frames = c.input.frames; size = d.from.slots; fill = c.input.fill; drops = c.input.drops; retries = d.retries; turns = d.turns; stops = d.stops }
 
 -- The frames at these places of a script, in order.
 abbrev pub bytes_at : Option Frame → Bytes

@@ -1,6 +1,5 @@
 pub mod Outputs
 pub mod Keys
-pub mod Counting
 pub mod Holding
 pub mod Driven
 pub mod Served

@@ -22,13 +22,13 @@ pub record AreLedgers (p : Plan) (r : FlowReport) : Type 0 where
   pub sent : TxLedger Bytes
   pub lawful_received : IsLawfulRxLedger Bytes p.size received
   pub lawful_sent : IsLawfulTxLedger Bytes p.size sent
-  pub were_offered : Chosen (frames piece_of received.completed) (take r.offered p.frames)
+  pub were_offered : Chosen (frames piece_of received.completed) (take r.tally.offered p.frames)
   pub were_taken : Chosen (frames carried sent.posted) (map touch (frames piece_of received.reaped))
   pub are_cut : AreCut p.fill received.completed
-  pub stored : r.stored ≡ length (frames piece_of received.completed)
+  pub stored : r.tally.stored ≡ length (frames piece_of received.completed)
   pub stored_bytes : r.stored_bytes ≡ sum_by length (frames piece_of received.completed)
-  pub taken : r.taken ≡ length (frames piece_of received.reaped)
-  pub posted : r.posted ≡ length (frames carried sent.posted)
+  pub taken : r.driven.taken ≡ length (frames piece_of received.reaped)
+  pub posted : r.driven.posted ≡ length (frames carried sent.posted)
   pub wire : r.wire ≡ frames carried sent.completed
   pub left : length received.reaped + length sent.completed + r.left ≡ length received.completed + length sent.posted
   pub all_stored : r.ended ≡ Drained → p.retries ≡ true → r.wire ≡ map touch (frames piece_of received.completed)
@@ -36,29 +36,29 @@ pub record AreLedgers (p : Plan) (r : FlowReport) : Type 0 where
 -- Each frame of the flow was offered, each stored frame was taken and then posted or dropped, and each posted frame is
 -- on the wire.
 pub record IsDrained (p : Plan) (r : FlowReport) : Type 0 where
-  pub all_offered : r.offered ≡ length p.frames
-  pub all_taken : r.taken ≡ r.stored
-  pub all_posted : r.posted + r.tx_dropped ≡ r.taken
-  pub all_sent : length r.wire ≡ r.posted
+  pub all_offered : r.tally.offered ≡ length p.frames
+  pub all_taken : r.driven.taken ≡ r.tally.stored
+  pub all_posted : r.driven.posted + r.driven.tx_dropped ≡ r.driven.taken
+  pub all_sent : length r.wire ≡ r.driven.posted
   pub none_left : r.left ≡ 0
 
 -- Only oversize frames were lost.
 pub record IsFull (p : Plan) (r : FlowReport) : Type 0 where
-  pub none_dropped : r.dropped ≡ 0
-  pub all_posted : r.tx_dropped ≡ 0
+  pub none_dropped : r.tally.dropped ≡ 0
+  pub all_posted : r.driven.tx_dropped ≡ 0
   pub output : IsFullOutput p.size p.fill p.frames r.wire
 
 -- Exactly the first `offered` frames of the flow were offered, and those of them that can never fit are oversize. None
 -- is dropped for lack of room unless the settings allow it.
 pub record IsReport (p : Plan) (r : FlowReport) : Type 0 where
   pub output : IsLawfulOutput p.frames r.wire
-  pub few_offered : r.offered ≤ length p.frames
-  pub adds : r.offered ≡ r.stored + r.dropped + r.oversize
-  pub oversize : r.oversize ≡ length (oversized p.size p.fill (take r.offered p.frames))
-  pub none_dropped : p.drops ≡ false → r.dropped ≡ 0
-  pub none_tx_dropped : p.retries ≡ true → r.tx_dropped ≡ 0
-  pub no_more : r.posted + r.tx_dropped ≤ r.taken
+  pub few_offered : r.tally.offered ≤ length p.frames
+  pub adds : r.tally.offered ≡ r.tally.stored + r.tally.dropped + r.tally.oversize
+  pub oversize : r.tally.oversize ≡ length (oversized p.size p.fill (take r.tally.offered p.frames))
+  pub none_dropped : p.drops ≡ false → r.tally.dropped ≡ 0
+  pub none_tx_dropped : p.retries ≡ true → r.driven.tx_dropped ≡ 0
+  pub no_more : r.driven.posted + r.driven.tx_dropped ≤ r.driven.taken
   pub ledgers : AreLedgers p r
   pub drained : r.ended ≡ Drained → IsDrained p r
-  pub never_cut : p.turns ≡ 0 → r.ended ≡ Drained
+  pub never_cut : p.turns ≡ 0 → p.stops ≡ false → r.ended ≡ Drained
   pub full : r.ended ≡ Drained → p.drops ≡ false → p.retries ≡ true → IsFull p r

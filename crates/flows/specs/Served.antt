@@ -11,8 +11,8 @@ use Rattle.tx_ring.specs.Ends as transmit
 use Rattle.controller.specs.declared.offer.Offer.{Offer}
 use Rattle.controller.specs.declared.offer.Offer.TheVariants.{Off, Oversize, Stored, Dropped, Held}
 use Rattle.controller.specs.Receiving.{Receiving}
-use Rattle.controller.specs.declared.tally.Tally.{Tally}
-use Rattle.controller.specs.Tallying.{AddsUp}
+use Rattle.counters.specs.declared.tally.Tally.{Tally}
+use Rattle.counters.specs.Kinds.{AddsUp}
 use Rattle.flows.specs.Outputs.{AreCut, Chosen, fitting, oversized}
 use Rattle.flows.specs.Keys.{Input, ControllerKey}
 use Rattle.flows.specs.declared.queue_phase.QueuePhase.{QueuePhase}

@@ -1,6 +1,6 @@
 -- The views of the two sides of a flow in contracts.
 use Rattle.std.specs.Prelude.{Bool, true, false, ◌&&◌}
-use Rattle.controller.specs.declared.tally.Tally.{Tally}
+use Rattle.counters.specs.declared.tally.Tally.{Tally}
 use Rattle.flows.specs.Keys.{ControllerKey}
 use Rattle.flows.specs.Served.{RxSource, TxSink}
 use Rattle.flows.specs.declared.queue_phase.QueuePhase.{QueuePhase}

@@ -1,13 +1,12 @@
 //! The meeting of both sides of a flow, once both its queues are disabled.
 ghost use Rattle.std.specs.Prelude.{◌≡◌};
-ghost use Rattle.flows.specs.Counting.{driven, driven_in, offered, offered_in};
 ghost use Rattle.flows.specs.Driven.{HasDriven};
 ghost use Rattle.flows.specs.Keys.{DriverKey, ControllerKey, plan_of};
 ghost use Rattle.flows.specs.Reports.{IsReport};
 ghost use Rattle.flows.specs.Served.{HasServed};
 
-use crate::counts::Counts;
 use controller::{Tally, Wire};
+use counters::Driven;
 use forwarding::{Ended, FlowReport};
 use rx_ring::{RxControllerEnd, RxDriverEnd, RxRing, meet_rx};
 use tx_ring::{TxControllerEnd, TxDriverEnd, TxRing, meet_tx};
@@ -20,7 +19,7 @@ pub struct DriverDone {
     /// The driver's end of the transmit ring.
     pub tx: TxDriverEnd,
     /// The frames that the driver counted.
-    pub counts: Counts,
+    pub counts: Driven,
     /// The segments that were stored and not taken when the disabling was answered.
     pub untaken: u32,
     /// The segments that were posted and not sent when the disabling was answered.
@@ -57,8 +56,8 @@ pub fn conclude(
     requires driven { HasDriven sides.0 driver }
     requires served { HasServed sides.1 controller }
     ensures report { IsReport (plan_of sides.0 sides.1) result }
-    ensures driven { driven_in result ≡ driven driver.counts }
-    ensures offered { offered_in result ≡ offered controller.tally }
+    ensures driven { result.driven ≡ driver.counts }
+    ensures offered { result.tally ≡ controller.tally }
 {
     let DriverDone {
         mut rx,
@@ -78,14 +77,9 @@ pub fn conclude(
     meet_rx(from, &mut rx, &mut storing);
     meet_tx(to, &mut tx, &mut sending);
     FlowReport {
-        offered: tally.offered,
-        stored: tally.stored,
+        tally,
         stored_bytes,
-        dropped: tally.dropped,
-        oversize: tally.oversize,
-        taken: counts.taken,
-        posted: counts.posted,
-        tx_dropped: counts.tx_dropped,
+        driven: counts,
         wire,
         left: u64::from(untaken) + u64::from(unsent),
         ended,

@@ -2,7 +2,7 @@
 ghost use Rattle.std.specs.Prelude.{◌≡◌, ◌<◌, ◌≤◌, None, All, length};
 ghost use Rattle.limits.specs.declared.profile.TheConstants.{MOST_SCRIPT_FRAMES};
 ghost use Rattle.limits.specs.FillSize.{IsFillSize};
-ghost use Rattle.controller.specs.Tallying.{AddsUp, nothing};
+ghost use Rattle.counters.specs.Kinds.{AddsUp, nothing};
 ghost use Rattle.rx_ring.specs.Ends as receive;
 ghost use Rattle.tx_ring.specs.Ends as transmit;
 ghost use Rattle.shared_ring.specs.Calls.{IsFreshController};
@@ -108,7 +108,7 @@ impl<'a> ControllerFlow<'a> {
 }
 
 impl<'a> Flow for ControllerFlow<'a> {
-    ghost use Rattle.flows.specs.Counting.{offered};
+    ghost use Rattle.counters.specs.Kinds.{tally_words};
     ghost use Rattle.flows.specs.Keys.{ControllerKey};
     ghost use Rattle.flows.specs.Sides.{has_served};
     ghost use Rattle.flows.specs.Turns.{ControllerTurned};
@@ -119,7 +119,7 @@ impl<'a> Flow for ControllerFlow<'a> {
 
     ghost over = { λ f. has_served f };
 
-    ghost numbers = { λ f. offered f.tally };
+    ghost numbers = { λ f. tally_words f.tally };
 
     ghost turned = { λ answers old result new. ControllerTurned answers old.key.number old result new };
 

@@ -5,19 +5,19 @@ ghost use Rattle.limits.specs.declared.profile.TheConstants.{MOST_RS_EVERY};
 ghost use Rattle.shared_ring.specs.Calls.{IsFreshDriver};
 ghost use Rattle.pool.specs.Owned.{IsOf};
 ghost use Rattle.rx_ring.specs.Ends.{posted, published};
-ghost use Rattle.flows.specs.Counting.{none};
+ghost use Rattle.counters.specs.Kinds.{none_taken};
 ghost use Rattle.flows.specs.declared.phase.Phase.TheVariants.{EnablingTx};
 ghost use Rattle.flows.specs.Driven.{HasDriven, is_over};
 ghost use Rattle.flows.specs.Holding.{HoldsJust};
 ghost use Rattle.flows.specs.Parts.{parts_of};
 
 use crate::concluding::DriverDone;
-use crate::counts::Counts;
 use crate::flow_drivers::{FlowDrivers, FlowSpec};
 use crate::phase::{Phase, Undelivered};
 use crate::starting::stock_up;
 use arrayvec::ArrayVec;
 use buffer_pool::{Packet, Stash};
+use counters::Driven;
 use driver::{MOST_BATCH, RxDriver, TxDriver};
 use forwarding::{Flow, ForwardError, Gate, Progress};
 use pool::PoolPass;
@@ -49,7 +49,7 @@ pub struct DriverParts {
 pub struct DriverFlow<'a> {
     flow_spec: FlowSpec<'a>,
     flow_drivers: FlowDrivers,
-    counts: Counts,
+    counts: Driven,
     phase: Phase,
 }
 
@@ -87,7 +87,7 @@ impl<'a> DriverFlow<'a> {
         requires rs_every { (0 < rs_every) × (rs_every ≤ MOST_RS_EVERY) }
         ensures key { result.key ≡ flow_spec.entry }
         ensures numbers { (result.driving.rx.batch ≡ batch) × (result.driving.tx.every ≡ rs_every) }
-        ensures counts { result.counts ≡ none }
+        ensures counts { result.counts ≡ none_taken }
         ensures phase { result.phase ≡ EnablingTx }
         ensures published { published result.driving.rx.end ≡ length (posted result.driving.rx.end) }
     {
@@ -112,13 +112,13 @@ impl<'a> DriverFlow<'a> {
                 pass,
                 short,
             },
-            counts: Counts::default(),
+            counts: Driven::default(),
             phase: Phase::EnablingTx,
         }
     }
 
     /// How many frames were taken, posted and dropped.
-    pub fn counts(&self) -> Counts
+    pub fn counts(&self) -> Driven
         ensures value { result ≡ self.now.counts }
         ensures rule { result.posted + result.tx_dropped ≤ result.taken }
     {
@@ -192,7 +192,7 @@ impl<'a> DriverFlow<'a> {
 }
 
 impl<'a> Flow for DriverFlow<'a> {
-    ghost use Rattle.flows.specs.Counting.{driven};
+    ghost use Rattle.counters.specs.Kinds.{driven_words};
     ghost use Rattle.flows.specs.Driven.{is_over};
     ghost use Rattle.flows.specs.Keys.{DriverKey};
     ghost use Rattle.flows.specs.Turns.{DriverTurned};
@@ -203,7 +203,7 @@ impl<'a> Flow for DriverFlow<'a> {
 
     ghost over = { λ f. is_over f.phase };
 
-    ghost numbers = { λ f. driven f.counts };
+    ghost numbers = { λ f. driven_words f.counts };
 
     ghost turned = { λ answers old result new. DriverTurned answers old.key.number old.phase result };
 

@@ -11,13 +11,14 @@ ghost use Rattle.teams.specs.declared.gate.Who.TheVariants as who;
 ghost use Rattle.teams.specs.Gates.{MayRefuse};
 ghost use Rattle.teams.specs.Numbers.{NoneFalls};
 ghost use Rattle.forwarding.specs.Driving.{BothAllowed, OneRefused};
-ghost use Rattle.flows.specs.Counting.{driven};
+ghost use Rattle.counters.specs.Kinds.{driven_words};
 ghost use Rattle.flows.specs.Driven.{IsEquipped, KnowsAsBefore, Relayed, RxAsBefore, TxAsBefore, driving_of};
 
-use crate::counts::Counts;
+use crate::cut_rule::CutRule;
 use crate::holding::drop_packets;
 use arrayvec::ArrayVec;
 use buffer_pool::{Packet, Stash};
+use counters::Driven;
 use driver::{MOST_BATCH, QueueDriver, RxDriver, TxDriver};
 use forwarding::{ForwardError, Gate, Turned, drive};
 use pool::{Pool, PoolPass};
@@ -50,16 +51,17 @@ pub struct FlowSpec<'a> {
     pub part: PoolPart,
     /// Whether packets that find no room wait; otherwise they are dropped.
     pub retry: bool,
-    /// The number of turns after which the flow is cut; 0 for never.
-    pub turns: u32,
+    /// When the flow is cut.
+    pub cut: CutRule<'a>,
 }
 
 impl<'a> Model for FlowSpec<'a> {
+    ghost use Rattle.std.specs.Option.{is_some};
     ghost use Rattle.flows.specs.Keys.{DriverKey};
 
     ghost Value = { DriverKey };
 
-    ghost view = { λ t. record { number = t.number; from = t.from.now; to = t.to.now; pool = t.pool.now; share = t.part.share; most = t.part.most; retries = t.retry; turns = t.turns } };
+    ghost view = { λ t. record { number = t.number; from = t.from.now; to = t.to.now; pool = t.pool.now; share = t.part.share; most = t.part.most; retries = t.retry; turns = t.cut.turns; stops = is_some t.cut.stop } };
 }
 
 /// Both drivers, the stash, the packets that wait, and the pass that holds all their buffers.
@@ -82,7 +84,7 @@ impl FlowDrivers {
         rt: &R,
         gate: &G,
         flow_spec: &FlowSpec<'_>,
-        counts: &mut Counts,
+        counts: &mut Driven,
     ) -> Result<Turned, ForwardError>
         requires equipped { IsEquipped flow_spec.now self.old.pass (driving_of self.old) }
         requires few { length self.old.pass.hand.held + self.old.short ≤ flow_spec.now.most }
@@ -94,7 +96,7 @@ impl FlowDrivers {
         ensures tx { is_on (transmit.driver_state self.new.tx.end) ≡ true }
         ensures relayed { Relayed flow_spec.now.retries self.new.rx.end self.new.tx.end counts.new (map bytes_of self.new.packets.items) }
         ensures held { length self.new.pass.hand.held + self.new.short ≡ length self.old.pass.hand.held + self.old.short }
-        ensures none_falls { NoneFalls (driven counts.old) (driven counts.new) }
+        ensures none_falls { NoneFalls (driven_words counts.old) (driven_words counts.new) }
         ensures quiet { receive.saw_quiet self.new.rx.end ≡ receive.saw_quiet self.old.rx.end }
         ensures drained { IfOk result (λ t. receive.saw_quiet self.old.rx.end ≡ true → t.taken ≡ 0 → length self.old.packets.items < MOST_BATCH → receive.is_drained self.new.rx.end ≡ true) }
         ensures allowed { OnOk result (BothAllowed G.answers gate.now flow_spec.now.number) }

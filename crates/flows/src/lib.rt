@@ -1,5 +1,5 @@
 //! A flow: the frames that one queue receives and another sends, as served by a driver's and a controller's side.
-//! Depends on `forwarding`, `buffer_accounting`, `teams`, `controller`, `driver`, `pool`, `buffer_pool`, `wire_script`,
+//! Depends on `forwarding`, `buffer_accounting`, `teams`, `counters`, `controller`, `driver`, `pool`, `buffer_pool`, `wire_script`,
 //! the ring crates and `arrayvec`.
 //! Guarantees that the frames on a flow's wire are touched frames of its script, in order, and that its counts match
 //! its rings' records.
@@ -13,7 +13,7 @@
 
 mod concluding;
 mod controller_flow;
-mod counts;
+mod cut_rule;
 mod disabling;
 mod driver_flow;
 mod flow_drivers;
@@ -28,7 +28,8 @@ mod tx_sink;
 
 pub use concluding::{ControllerDone, DriverDone, conclude};
 pub use controller_flow::ControllerFlow;
-pub use counts::Counts;
+pub use counters::Driven;
+pub use cut_rule::CutRule;
 pub use driver_flow::{DriverFlow, DriverParts};
 pub use flow_drivers::{FlowSpec, PoolPart};
 pub use forwarding::{Ended, FlowReport};

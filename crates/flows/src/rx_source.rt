@@ -2,12 +2,11 @@
 ghost use Rattle.std.specs.Prelude.{◌≡◌, ◌<◌, ◌≤◌, All, length, None, IfErr};
 ghost use Rattle.limits.specs.declared.profile.TheConstants.{MOST_SCRIPT_FRAMES};
 ghost use Rattle.limits.specs.FillSize.{IsFillSize};
-ghost use Rattle.controller.specs.Tallying.{AddsUp, nothing};
+ghost use Rattle.counters.specs.Kinds.{AddsUp, nothing, tally_words};
 ghost use Rattle.rx_ring.specs.Calls.{IsFreshController};
 ghost use Rattle.rx_ring.specs.Ends.{held};
 ghost use Rattle.teams.specs.Gates.{Met};
 ghost use Rattle.teams.specs.Numbers.{NoneFalls};
-ghost use Rattle.flows.specs.Counting.{offered};
 ghost use Rattle.flows.specs.Keys.{frames_at};
 ghost use Rattle.flows.specs.Served.{HasOffered};
 ghost use Rattle.flows.specs.Turns.{HasOfferedOne, RxAnswered};
@@ -91,7 +90,7 @@ impl<'a> RxSource<'a> {
     /// decided, announces that no more is stored.
     pub(crate) fn offer<G: Gate>(&mut self, number: usize, gate: &G) -> Result<bool, ForwardError>
         ensures input { self.new.input ≡ self.old.input }
-        ensures none_falls { NoneFalls (offered self.old.controller.tally) (offered self.new.controller.tally) }
+        ensures none_falls { NoneFalls (tally_words self.old.controller.tally) (tally_words self.new.controller.tally) }
         ensures one { HasOfferedOne (G.answers gate.now) number self.old result self.new }
         ensures refused { IfErr result (λ e. Met G.answers gate.now e) }
     {

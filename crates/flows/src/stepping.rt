@@ -2,16 +2,16 @@
 ghost use Rattle.std.specs.Prelude.{◌≡◌, ◌+◌, ◌≤◌, [], length, IfOk, IfErr, OnErr};
 ghost use Rattle.teams.specs.Gates.{Met};
 ghost use Rattle.teams.specs.Numbers.{NoneFalls};
-ghost use Rattle.flows.specs.Counting.{driven};
+ghost use Rattle.counters.specs.Kinds.{driven_words};
 ghost use Rattle.flows.specs.declared.phase.Phase.TheVariants as phase;
 ghost use Rattle.flows.specs.Driven.{GoesTo, IsEquipped, IsRelaying, driving_of, relaying};
 ghost use Rattle.flows.specs.Turns.{DriverTurned};
 
-use crate::counts::Counts;
 use crate::disabling::{finish_rx, finish_tx};
 use crate::flow_drivers::{FlowDrivers, FlowSpec};
 use crate::holding::give_stash;
 use crate::phase::{Phase, Undelivered};
+use counters::Driven;
 use driver::{MOST_BATCH, QueueDriver};
 use forwarding::{Ended, ForwardError, Gate};
 use std::sync::Wait;
@@ -23,13 +23,13 @@ impl FlowDrivers {
         rt: &R,
         gate: &G,
         flow_spec: &FlowSpec<'_>,
-        counts: &mut Counts,
+        counts: &mut Driven,
         at: Phase,
     ) -> Result<Phase, ForwardError>
         requires { IsRelaying (relaying flow_spec.now self.old counts.old at) }
         ensures went { IfOk result (λ next. IsRelaying (relaying flow_spec.now self.new counts.new next)) }
         ensures stayed { OnErr result (IsRelaying (relaying flow_spec.now self.new counts.new at)) }
-        ensures none_falls { NoneFalls (driven counts.old) (driven counts.new) }
+        ensures none_falls { NoneFalls (driven_words counts.old) (driven_words counts.new) }
         ensures turned { DriverTurned (G.answers gate.now) flow_spec.now.number at result }
         ensures refused { IfErr result (λ e. Met G.answers gate.now e) }
     {
@@ -49,7 +49,7 @@ impl FlowDrivers {
     }
 
     /// Enables the transmit queue.
-    fn enable_tx(&mut self, flow_spec: &FlowSpec<'_>, counts: Counts) -> Phase
+    fn enable_tx(&mut self, flow_spec: &FlowSpec<'_>, counts: Driven) -> Phase
         requires { IsRelaying (relaying flow_spec.now self.old counts phase.EnablingTx) }
         ensures { IsRelaying (relaying flow_spec.now self.new counts result) }
     {
@@ -60,7 +60,7 @@ impl FlowDrivers {
     }
 
     /// Enables the receive queue.
-    fn enable_rx(&mut self, flow_spec: &FlowSpec<'_>, counts: Counts) -> Phase
+    fn enable_rx(&mut self, flow_spec: &FlowSpec<'_>, counts: Driven) -> Phase
         requires { IsRelaying (relaying flow_spec.now self.old counts phase.EnablingRx) }
         ensures { IsRelaying (relaying flow_spec.now self.new counts result) }
     {
@@ -77,14 +77,14 @@ impl FlowDrivers {
         rt: &R,
         gate: &G,
         flow_spec: &FlowSpec<'_>,
-        counts: &mut Counts,
+        counts: &mut Driven,
         made: u32,
     ) -> Result<Phase, ForwardError>
         requires { IsRelaying (relaying flow_spec.now self.old counts.old (phase.Forwarding made)) }
         ensures went { IfOk result (λ next. IsRelaying (relaying flow_spec.now self.new counts.new next)) }
-        ensures next { IfOk result (λ next. GoesTo flow_spec.now.turns made next) }
+        ensures next { IfOk result (λ next. GoesTo flow_spec.now.turns flow_spec.now.stops made next) }
         ensures stayed { OnErr result (IsRelaying (relaying flow_spec.now self.new counts.new (phase.Forwarding made))) }
-        ensures none_falls { NoneFalls (driven counts.old) (driven counts.new) }
+        ensures none_falls { NoneFalls (driven_words counts.old) (driven_words counts.new) }
         ensures turned { DriverTurned (G.answers gate.now) flow_spec.now.number (phase.Forwarding made) result }
         ensures refused { IfErr result (λ e. Met G.answers gate.now e) }
     {
@@ -95,21 +95,21 @@ impl FlowDrivers {
             self.close(flow_spec);
             return Ok(Phase::Disabling(Ended::Drained, None, None));
         }
-        if flow_spec.turns == 0 {
+        if flow_spec.cut.is_last(made) {
+            self.close(flow_spec);
+            return Ok(Phase::Disabling(Ended::Cut, None, None));
+        }
+        if flow_spec.cut.turns == 0 {
             return Ok(Phase::Forwarding(made));
         }
-        if made < flow_spec.turns - 1 {
-            return Ok(Phase::Forwarding(made + 1));
-        }
-        self.close(flow_spec);
-        Ok(Phase::Disabling(Ended::Cut, None, None))
+        Ok(Phase::Forwarding(made + 1))
     }
 
     /// Waits for the answers to both disablings.
     fn finish(
         &mut self,
         flow_spec: &FlowSpec<'_>,
-        counts: Counts,
+        counts: Driven,
         ended: Ended,
         untaken: Option<u32>,
         unsent: Option<u32>,
@@ -135,7 +135,7 @@ impl FlowDrivers {
         &mut self,
         rt: &R,
         flow_spec: &FlowSpec<'_>,
-        counts: Counts,
+        counts: Driven,
         left: Undelivered,
     ) -> Phase
         requires { IsRelaying (relaying flow_spec.now self.old counts (phase.Reclaiming left)) }

@@ -1,7 +1,7 @@
 -- A hot flow may go to another thread.
 use denote.Param.Send.{IsSend}
 use Rattle.atomic_table.proofs.shared.Seat.TheSendSync as Seat
-use Rattle.controller.proofs.tally.Tally.TheSendSync as Tally
+use Rattle.counters.proofs.tally.Tally.TheSendSync as Tally
 use Rattle.controller.proofs.wire.Wire.TheSendSync as Wire
 use Rattle.flows.proofs.Sent.{rx_ring, tables, tx_ring}
 use Rattle.flows.proofs.queue_phase.QueuePhase.TheSendSync as QueuePhase

@@ -1,6 +1,6 @@
 //! Both sides of a flow: the driver's side of the forwarder, and a controller's side that offers a few frames again and
 //! again.
-ghost use Rattle.std.specs.Prelude.{◌≡◌, ℕ, ◌<◌, [], length, vec_len, slice_index_or};
+ghost use Rattle.std.specs.Prelude.{◌≡◌, ℕ, ◌+◌, ◌<◌, length, vec_len, slice_index_or};
 ghost use Rattle.pool.specs.Owned.{IsOf};
 ghost use Rattle.settings.specs.Configs.{IsLawful};
 ghost use Rattle.forwarder.specs.Rings.{AreEnds};
@@ -8,17 +8,11 @@ ghost use Rattle.forwarder.specs.Rings.{AreEnds};
 use crate::hot_flow::HotFlow;
 use crate::workload::Workload;
 use anyhow::Result;
-use flows::{DriverFlow, FlowSpec, PoolPart};
-use forwarder::{Config, FlowRingEnds, FlowRings};
+use flows::DriverFlow;
+use forwarder::{Config, FlowRingEnds, FlowRings, start_flow};
 use pool::{Pool, PoolPass};
 use std::alloc::Global;
 use std::sync::Wait;
-
-/// The share of the pool that each flow's pass has.
-const SHARE: u32 = 1;
-
-/// The most buffers of a flow beyond a full receive ring.
-const STASHED: u32 = 255;
 
 /// The frames that are offered to a flow: these again and again, `count` in all.
 #[derive(Clone, Copy)]
@@ -41,7 +35,7 @@ pub(crate) struct Sides<'a> {
     pub controllers: Vec<HotFlow<'a>>,
 }
 
-/// Makes both sides of a flow. Posts the flow's share of the buffers to its receive ring, as far as they fit.
+/// Makes both sides of a flow. Splits off a pass for the driver's side.
 fn make_side<'a, R: Wait>(
     rt: &R,
     alloc: Global,
@@ -51,36 +45,17 @@ fn make_side<'a, R: Wait>(
     rings: &'a FlowRings,
     ends: FlowRingEnds,
     pool: &'a Pool,
-    pass: PoolPass,
+    pass: &mut PoolPass,
 ) -> FlowSides<'a>
     requires lawful { IsLawful config.now }
     requires ends { AreEnds config.now.ring config.now.completion rings.now ends }
-    requires pool { IsOf pool.now pass }
-    requires share { pass.hand.share ≡ 1 }
-    requires none { pass.hand.held ≡ [] }
+    requires pool { IsOf pool.now pass.old }
+    requires share { 1 < pass.old.hand.share }
+    ensures pool { IsOf pool.entry.now pass.new }
+    ensures share { pass.new.hand.share + 1 ≡ pass.old.hand.share }
 {
-    let share = config.buffers / (2 * config.pairs);
-    let most = share.min(config.ring + STASHED) as usize;
-    let flow_spec = FlowSpec {
-        number,
-        from: &rings.from,
-        to: &rings.to,
-        pool,
-        part: PoolPart {
-            share: SHARE as u64,
-            most,
-        },
-        retry: config.retry,
-        turns: config.turns,
-    };
-    let driver = DriverFlow::start(
-        rt,
-        flow_spec,
-        (ends.takes, ends.posts),
-        pass,
-        config.batch as usize,
-        config.rs_every as u16,
-    );
+    let takes = (ends.takes, ends.posts);
+    let driver = start_flow(rt, config, number, rings, takes, pool, pass, None);
     let controller = HotFlow::new(
         alloc,
         (&rings.from, &rings.to),
@@ -115,9 +90,8 @@ pub(crate) fn make_sides<'a, R: Wait>(
     for own in ends {
         let count = workload.frames_of(number);
         let feed = Feed { frames, count };
-        let share = pass.split(pool, SHARE);
         let rings = &flow_rings[number];
-        let side = make_side(rt, alloc, config, number, feed, rings, own, pool, share);
+        let side = make_side(rt, alloc, config, number, feed, rings, own, pool, pass);
         drivers.push_reserved(side.driver);
         controllers.push_reserved(side.controller);
         number += 1;

@@ -31,16 +31,16 @@ total-more count flows k r low here =
 module _ (came left : List FlowReport) (k : ℕ) (r : FlowReport) where
   pub came-more : k < length came → r ≡ get_or came k r → with_came (sums_of (take k came) left) r ≡ sums_of (take (k + 1) came) left
   came-more low here =
-      let packets = total-more (λ q. q.stored) came k r low here in
+      let packets = total-more (λ q. q.tally.stored) came k r low here in
       let bytes = total-more (λ q. q.stored_bytes) came k r low here in
-      let dropped = total-more (λ q. q.dropped) came k r low here in
-      ap (λ (n : ℕ). record (sums_of (take k came) left) { rx_packets = n; rx_bytes = added (total (λ q. q.stored_bytes) (take k came)) r.stored_bytes; rx_dropped = added (total (λ q. q.dropped) (take k came)) r.dropped }) packets
-      ∙ ap₂ (λ (m n : ℕ). record (sums_of (take k came) left) { rx_packets = total (λ q. q.stored) (take (k + 1) came); rx_bytes = m; rx_dropped = n }) bytes dropped
+      let dropped = total-more (λ q. q.tally.dropped) came k r low here in
+      ap (λ (n : ℕ). record (sums_of (take k came) left) { rx_packets = n; rx_bytes = added (total (λ q. q.stored_bytes) (take k came)) r.stored_bytes; rx_dropped = added (total (λ q. q.tally.dropped) (take k came)) r.tally.dropped }) packets
+      ∙ ap₂ (λ (m n : ℕ). record (sums_of (take k came) left) { rx_packets = total (λ q. q.tally.stored) (take (k + 1) came); rx_bytes = m; rx_dropped = n }) bytes dropped
 
   pub left-more : k < length left → r ≡ get_or left k r → with_left (sums_of came (take k left)) r ≡ sums_of came (take (k + 1) left)
   left-more low here =
       let packets = total-more (λ q. length q.wire) left k r low here in
       let bytes = total-more (λ q. sum_by length q.wire) left k r low here in
-      let dropped = total-more (λ q. q.tx_dropped) left k r low here in
-      ap (λ (n : ℕ). record (sums_of came (take k left)) { tx_packets = n; tx_bytes = added (total (λ q. sum_by length q.wire) (take k left)) (sum_by length r.wire); tx_dropped = added (total (λ q. q.tx_dropped) (take k left)) r.tx_dropped }) packets
+      let dropped = total-more (λ q. q.driven.tx_dropped) left k r low here in
+      ap (λ (n : ℕ). record (sums_of came (take k left)) { tx_packets = n; tx_bytes = added (total (λ q. sum_by length q.wire) (take k left)) (sum_by length r.wire); tx_dropped = added (total (λ q. q.driven.tx_dropped) (take k left)) r.driven.tx_dropped }) packets
       ∙ ap₂ (λ (m n : ℕ). record (sums_of came (take k left)) { tx_packets = total (λ q. length q.wire) (take (k + 1) left); tx_bytes = m; tx_dropped = n }) bytes dropped

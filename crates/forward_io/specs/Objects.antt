@@ -1,10 +1,12 @@
 -- A flow's report as a JSON object on its own line.
-use Rattle.std.specs.Prelude.{ℕ, ◌-◌, ◌^◌, Bool, true, false, List, [], ◌++◌, codes, decimal, length, min, sum_by}
+use Rattle.std.specs.Prelude.{ℕ, ◌-◌, ◌^◌, Bool, true, false, List, [], ◌∷◌, ◌++◌, codes, decimal, length, min, sum_by}
+use Rattle.counters.specs.FlowCounters.{Entry, entries}
 use Rattle.forwarding.specs.declared.report.Ended.{Ended}
 use Rattle.forwarding.specs.declared.report.Ended.TheVariants.{Cut, Drained}
 use Rattle.forwarding.specs.declared.report.FlowReport.{FlowReport}
 use Rattle.forwarding.specs.declared.ports.PortQueue.{PortQueue}
 use Rattle.forwarding.specs.Peers.{peer, place}
+use Rattle.forwarding.specs.Reported.{counters_of}
 use Rattle.forward_io.specs.Leaving.{leaving}
 use Rattle.forward_io.specs.declared.sums.PortSums.{PortSums}
 
@@ -19,22 +21,22 @@ end_members input output =
     ++ (codes ",\"rx_port\":" ++ (decimal input.port ++ (codes ",\"rx_queue\":" ++ (decimal input.queue
     ++ (codes ",\"tx_port\":" ++ (decimal output.port ++ (codes ",\"tx_queue\":" ++ decimal output.queue))))))))))
 
--- the frames offered to the flow, and their fate at its receive ring
-abbrev pub offered_members : FlowReport → List ℕ
-offered_members r =
-    codes ",\"offered\":" ++ (decimal r.offered ++ (codes ",\"stored\":" ++ (decimal r.stored
-    ++ (codes ",\"dropped\":" ++ (decimal r.dropped ++ (codes ",\"oversize\":" ++ decimal r.oversize))))))
+-- a counter after its key
+abbrev pub counter_member : Entry → List ℕ
+counter_member e = codes ",\"" ++ (e.key ++ (codes "\":" ++ decimal e.value))
 
--- the counts of its driver, and the frames that went out and remained
-abbrev pub driven_members : FlowReport → List ℕ
-driven_members r =
-    codes ",\"taken\":" ++ (decimal r.taken ++ (codes ",\"posted\":" ++ (decimal r.posted ++ (codes ",\"tx_dropped\":" ++ (decimal r.tx_dropped
-    ++ (codes ",\"wire\":" ++ (decimal (length r.wire) ++ (codes ",\"left\":" ++ decimal r.left))))))))
+abbrev pub counter_members : List Entry → List ℕ
+counter_members [] = []
+counter_members (e ∷ es) = counter_member e ++ counter_members es
+
+-- the frames that went out, and what remained
+abbrev pub remaining_members : FlowReport → List ℕ
+remaining_members r = codes ",\"wire\":" ++ (decimal (length r.wire) ++ (codes ",\"left\":" ++ decimal r.left))
 
 -- frames and bytes by direction, under the names of ethtool and testpmd
 abbrev pub directions : FlowReport → ℕ → ℕ → List ℕ
 directions r sent bytes =
-    codes ",\"rx_packets\":" ++ (decimal r.stored ++ (codes ",\"rx_bytes\":" ++ (decimal r.stored_bytes ++ (codes ",\"rx_dropped\":" ++ (decimal r.dropped
+    codes ",\"rx_packets\":" ++ (decimal r.tally.stored ++ (codes ",\"rx_bytes\":" ++ (decimal r.stored_bytes ++ (codes ",\"rx_dropped\":" ++ (decimal r.tally.dropped
     ++ (codes ",\"tx_packets\":" ++ (decimal sent ++ (codes ",\"tx_bytes\":" ++ decimal bytes))))))))
 
 -- stored frames count as received, and frames on the wire as sent
@@ -48,7 +50,7 @@ ended_member r = codes ",\"ended\":\"" ++ (ended_word r.ended ++ codes "\"}\n")
 -- the object of the flow that came in at this port and queue
 unfoldable pub flow_object : ℕ → ℕ → FlowReport → List ℕ
 flow_object port queue r =
-    end_members (place port queue) (peer (place port queue)) ++ (offered_members r ++ (driven_members r ++ (direction_members r ++ ended_member r)))
+    end_members (place port queue) (peer (place port queue)) ++ (counter_members (entries (counters_of r)) ++ (remaining_members r ++ (direction_members r ++ ended_member r)))
 
 -- the sum of a count over flows, at most 2^64 - 1
 abbrev pub total : (FlowReport → ℕ) → List FlowReport → ℕ
@@ -57,12 +59,12 @@ total count flows = min (sum_by count flows) (2 ^ 64 - 1)
 -- the sums of the flows that came in at a port, and of those that left it
 abbrev pub sums_of : List FlowReport → List FlowReport → PortSums
 sums_of came left = record {
-  rx_packets = total (λ r. r.stored) came;
+  rx_packets = total (λ r. r.tally.stored) came;
   rx_bytes = total (λ r. r.stored_bytes) came;
-  rx_dropped = total (λ r. r.dropped) came;
+  rx_dropped = total (λ r. r.tally.dropped) came;
   tx_packets = total (λ r. length r.wire) left;
   tx_bytes = total (λ r. sum_by length r.wire) left;
-  tx_dropped = total (λ r. r.tx_dropped) left;
+  tx_dropped = total (λ r. r.driven.tx_dropped) left;
 }
 
 -- the frames and bytes that came in at a port

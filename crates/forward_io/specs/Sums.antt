@@ -10,9 +10,9 @@ added m n = min (m + n) (2 ^ 64 - 1)
 -- a flow more that came in
 abbrev pub with_came : PortSums → FlowReport → PortSums
 with_came s r = record s {
-  rx_packets = added s.rx_packets r.stored;
+  rx_packets = added s.rx_packets r.tally.stored;
   rx_bytes = added s.rx_bytes r.stored_bytes;
-  rx_dropped = added s.rx_dropped r.dropped;
+  rx_dropped = added s.rx_dropped r.tally.dropped;
 }
 
 -- a flow more that left
@@ -20,5 +20,5 @@ abbrev pub with_left : PortSums → FlowReport → PortSums
 with_left s r = record s {
   tx_packets = added s.tx_packets (length r.wire);
   tx_bytes = added s.tx_bytes (sum_by length r.wire);
-  tx_dropped = added s.tx_dropped r.tx_dropped;
+  tx_dropped = added s.tx_dropped r.driven.tx_dropped;
 }

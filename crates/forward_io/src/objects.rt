@@ -1,12 +1,14 @@
 //! The reports of flows, and the sums of ports, as JSON objects.
-ghost use Rattle.std.specs.Prelude.{◌≡◌, ◌<◌, ◌++◌, true, IfErr, OnOk};
+ghost use Rattle.std.specs.Prelude.{◌≡◌, ◌<◌, ◌++◌, map, IfErr, OnOk};
 ghost use Rattle.std.specs.String.{string_bytes};
+ghost use Rattle.counters.specs.FlowCounters.{entry_of};
 ghost use Rattle.requests.specs.declared.refusal.Refusal.TheVariants.{Memory};
 ghost use Rattle.limits.specs.declared.profile.TheConstants.{PORTS};
-ghost use Rattle.forward_io.specs.Objects.{direction_members, driven_members, end_members, ended_member, ended_word, flow_object, offered_members, port_object, port_objects, received_members, sent_members};
+ghost use Rattle.forward_io.specs.Objects.{counter_members, direction_members, end_members, ended_member, ended_word, flow_object, port_object, port_objects, received_members, remaining_members, sent_members};
 
 use crate::outputs::leaving;
 use crate::sums::{PortSums, bytes_of};
+use counters::Counter;
 use forwarding::{Ended, FlowReport, PortQueue, peer};
 use requests::Refusal;
 
@@ -33,8 +35,8 @@ pub(crate) fn write_object(
 {
     let input = PortQueue { port, queue };
     write_ends(text, input, peer(input))?;
-    write_offered(text, flow)?;
-    write_driven(text, flow)?;
+    write_counters(text, &flow.counters().entries())?;
+    write_remaining(text, flow)?;
     write_directions(text, flow)?;
     write_ended(text, flow)
 }
@@ -52,30 +54,24 @@ fn write_ends(text: &mut String, input: PortQueue, output: PortQueue) -> Result<
     Ok(())
 }
 
-/// Writes the number of frames offered to a flow, and their fate at its receive ring.
-fn write_offered(text: &mut String, flow: &FlowReport) -> Result<(), Refusal>
-    ensures members { OnOk result (string_bytes text.new ≡ string_bytes text.old ++ offered_members flow.now) }
+/// Writes counters, each after its key.
+fn write_counters(text: &mut String, counters: &[Counter]) -> Result<(), Refusal>
+    ensures members { OnOk result (string_bytes text.new ≡ string_bytes text.old ++ counter_members (map entry_of counters.now)) }
     ensures refused { IfErr result (λ e. e ≡ Memory) }
 {
-    write!(
-        text,
-        ",\"offered\":{},\"stored\":{},\"dropped\":{},\"oversize\":{}",
-        flow.offered, flow.stored, flow.dropped, flow.oversize,
-    )?;
+    for counter in counters {
+        write!(text, ",\"{}\":{}", counter.key, counter.value)?;
+    }
     Ok(())
 }
 
-/// Writes the counts of a flow's driver, and how many frames went out and remained.
-fn write_driven(text: &mut String, flow: &FlowReport) -> Result<(), Refusal>
-    ensures members { OnOk result (string_bytes text.new ≡ string_bytes text.old ++ driven_members flow.now) }
+/// Writes how many frames left a flow, and how many segments remained.
+fn write_remaining(text: &mut String, flow: &FlowReport) -> Result<(), Refusal>
+    ensures members { OnOk result (string_bytes text.new ≡ string_bytes text.old ++ remaining_members flow.now) }
     ensures refused { IfErr result (λ e. e ≡ Memory) }
 {
     let wire = flow.wire.len();
-    write!(
-        text,
-        ",\"taken\":{},\"posted\":{},\"tx_dropped\":{},\"wire\":{wire},\"left\":{}",
-        flow.taken, flow.posted, flow.tx_dropped, flow.left,
-    )?;
+    write!(text, ",\"wire\":{wire},\"left\":{}", flow.left)?;
     Ok(())
 }
 
@@ -88,7 +84,7 @@ fn write_directions(text: &mut String, flow: &FlowReport) -> Result<(), Refusal>
     write!(
         text,
         ",\"rx_packets\":{},\"rx_bytes\":{},\"rx_dropped\":{},\"tx_packets\":{packets},\"tx_bytes\":{bytes}",
-        flow.stored, flow.stored_bytes, flow.dropped,
+        flow.tally.stored, flow.stored_bytes, flow.tally.dropped,
     )?;
     Ok(())
 }

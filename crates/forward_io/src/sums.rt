@@ -44,9 +44,9 @@ impl PortSums {
         ensures { result ≡ with_came self flow.now }
     {
         PortSums {
-            rx_packets: self.rx_packets.saturating_add(flow.stored),
+            rx_packets: self.rx_packets.saturating_add(flow.tally.stored),
             rx_bytes: self.rx_bytes.saturating_add(flow.stored_bytes),
-            rx_dropped: self.rx_dropped.saturating_add(flow.dropped),
+            rx_dropped: self.rx_dropped.saturating_add(flow.tally.dropped),
             ..self
         }
     }
@@ -59,7 +59,7 @@ impl PortSums {
         PortSums {
             tx_packets: self.tx_packets.saturating_add(packets),
             tx_bytes: self.tx_bytes.saturating_add(bytes),
-            tx_dropped: self.tx_dropped.saturating_add(flow.tx_dropped),
+            tx_dropped: self.tx_dropped.saturating_add(flow.driven.tx_dropped),
             ..self
         }
     }

@@ -1,15 +1,18 @@
 //! The text of a report.
 ghost use Rattle.std.specs.Prelude.{◌≡◌, ◌++◌, ◌*◌, ◌<◌, ◌≤◌, length, map, IfErr, IfOk, OnOk};
 ghost use Rattle.std.specs.String.{string_bytes};
+ghost use Rattle.counters.specs.FlowCounters.{entry_of};
 ghost use Rattle.limits.specs.declared.profile.TheConstants.{MOST_PAIRS, PORTS};
 ghost use Rattle.requests.specs.declared.refusal.Refusal.TheVariants.{Memory};
 ghost use Rattle.wire_script.specs.Frame.{frame_of};
 ghost use Rattle.wire_script.specs.Script.{text_for};
-ghost use Rattle.forward_io.specs.Text.{driven_words, ending_words, flow_line, flow_text, flow_texts, offered_words, report_text, wires_from, wires_text};
+ghost use Rattle.forward_io.specs.Text.{counter_word, counter_words, ending_words, flow_line, flow_text, flow_texts, report_text, wires_from, wires_text};
 
 use crate::objects::{word_of, write_object, write_ports};
 use crate::outputs::leaving;
+use crate::sums::bytes_of;
 use controller::Wire;
+use counters::Counter;
 use forwarding::FlowReport;
 use requests::{Printing, Refusal};
 use std::alloc::Global;
@@ -21,16 +24,10 @@ const AROUND_FRAME: usize = 5;
 /// Capacity for the line or the object of a flow: its words, and numbers of up to 20 digits.
 const FLOW_LINE: usize = 512;
 
-/// Number of bytes of a wire's lines.
+/// Number of bytes of a wire's lines: two digits for each byte of its frames, and what is around each frame.
 fn wire_room(wire: &Wire) -> usize {
-    let mut room = 0usize;
-    for frame in wire.iter() {
-        room = room
-            .saturating_add(frame.len())
-            .saturating_add(frame.len())
-            .saturating_add(AROUND_FRAME);
-    }
-    room
+    let around = wire.len().saturating_mul(AROUND_FRAME);
+    bytes_of(wire).saturating_mul(2).saturating_add(around)
 }
 
 /// Capacity for the text of these flows.
@@ -109,34 +106,30 @@ fn write_flow(text: &mut String, port: u8, queue: u8, flow: &FlowReport) -> Resu
     ensures line { OnOk result (string_bytes text.new ≡ string_bytes text.old ++ flow_line port queue flow.now) }
     ensures refused { IfErr result (λ e. e ≡ Memory) }
 {
-    write_offered(text, port, queue, flow)?;
-    write_driven(text, flow)?;
+    write!(text, "flow {port} {queue}")?;
+    write_words(text, &flow.counters().entries())?;
     write_ending(text, flow)
 }
 
-/// Writes the number of frames offered to a flow, and their fate at its receive ring.
-fn write_offered(text: &mut String, port: u8, queue: u8, flow: &FlowReport) -> Result<(), Refusal>
-    ensures words { OnOk result (string_bytes text.new ≡ string_bytes text.old ++ offered_words port queue flow.now) }
+/// Writes counters, each after its word.
+fn write_words(text: &mut String, counters: &[Counter]) -> Result<(), Refusal>
+    ensures words { OnOk result (string_bytes text.new ≡ string_bytes text.old ++ counter_words (map entry_of counters.now)) }
     ensures refused { IfErr result (λ e. e ≡ Memory) }
 {
-    write!(
-        text,
-        "flow {port} {queue} offered {} stored {} dropped {} oversize {}",
-        flow.offered, flow.stored, flow.dropped, flow.oversize,
-    )?;
+    for counter in counters {
+        write_word(text, counter)?;
+    }
     Ok(())
 }
 
-/// Writes the counts of a flow's driver.
-fn write_driven(text: &mut String, flow: &FlowReport) -> Result<(), Refusal>
-    ensures words { OnOk result (string_bytes text.new ≡ string_bytes text.old ++ driven_words flow.now) }
+/// Writes a counter after its word, if it has one.
+fn write_word(text: &mut String, counter: &Counter) -> Result<(), Refusal>
+    ensures word { OnOk result (string_bytes text.new ≡ string_bytes text.old ++ counter_word (entry_of counter.now)) }
     ensures refused { IfErr result (λ e. e ≡ Memory) }
 {
-    write!(
-        text,
-        " taken {} posted {} tx-dropped {}",
-        flow.taken, flow.posted, flow.tx_dropped,
-    )?;
+    if let Some(word) = counter.word {
+        write!(text, " {word} {}", counter.value)?;
+    }
     Ok(())
 }
 

@@ -4,6 +4,6 @@ pub mod Plans
 pub mod Walking
 mod FlowFrames
 pub mod Stopped
-pub mod Fresh
+pub mod Continuing
 pub mod Moving
 pub mod Whole

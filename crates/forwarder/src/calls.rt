@@ -1,7 +1,7 @@
 //! The calls that forward a whole script.
-ghost use Rattle.std.specs.Option.{ForSome};
+ghost use Rattle.std.specs.Option.{ForSome, is_some};
 ghost use Rattle.std.specs.Prelude.{◌≡◌, ◌↔◌, ◌⊎◌, ℕ, ◌*◌, ◌<◌, IfSome, IfOk, IfErr, IsErrOf, length, vec_len, slice_index_or};
-ghost use Rattle.counters.specs.Paired.{ArePaired};
+ghost use Rattle.counters.specs.Paired.{ArePaired, ArePensOf};
 ghost use Rattle.limits.specs.declared.profile.TheConstants.{MOST_PAIRS, PORTS};
 ghost use Rattle.refusals.specs.declared.errors.ForwardError.TheVariants.{Memory, Config as ConfigRefused};
 ghost use Rattle.pool.specs.declared.hand.TheConstants.{WHOLE_SHARE};
@@ -9,8 +9,8 @@ ghost use Rattle.pool.specs.Hands.{HoldsWhole};
 ghost use Rattle.pool.specs.Owned.{IsOf};
 ghost use Rattle.flows.specs.Reports.{IsReport};
 ghost use Rattle.settings.specs.Configs.{FitsIn};
-ghost use Rattle.forwarder.specs.Plans.{plan};
-ghost use Rattle.forwarder.specs.ShownCounts.{ShowReports};
+ghost use Rattle.forwarder.specs.Plans.{plan, plan_with};
+ghost use Rattle.forwarder.specs.ShownCounts.{ContinueByReports, ShowReports};
 ghost use Rattle.teams.specs.Refusals.{Halted};
 
 use crate::flow_rings::make_rings;
@@ -24,6 +24,7 @@ use pool::{Pool, PoolPass};
 use settings::Config;
 use std::alloc::Global;
 use std::sync::Wait;
+use std::sync::atomic::AtomicBool;
 use std::thread::Threads;
 use wire_script::Script;
 
@@ -95,12 +96,9 @@ pub fn forward_in<R: Threads + Wait + Sync, G: Gate + Sync>(
     ensures held { pass.new.hand.held ≡ pass.old.hand.held }
     ensures whole { HoldsWhole pass.old.hand → HoldsWhole pass.new.hand }
 {
-    let job = Job {
-        script,
-        config,
-        gate,
-    };
-    let (report, _) = forward_over(rt, alloc, job, pool, pass, None)?;
+    let (report, _) = forward_with(
+        rt, alloc, script, config, gate, pool, pass, None, None,
+    )?;
     Ok(report)
 }
 
@@ -129,40 +127,54 @@ pub fn forward_watched<R: Threads + Wait + Sync, G: Gate + Sync>(
     ensures shown { IfOk result (λ r. ShowReports cells.now r.1.items r.0.flows.items) }
 {
     let (pool, mut pass) = make_pool(rt, alloc, script, config)?;
+    let watch = Some(Watch { cells, pens });
+    forward_with(
+        rt, alloc, script, config, gate, &pool, &mut pass, watch, None,
+    )
+}
+
+/// Forwards as [`forward_in`] does. With `watch`, the cells go on from the numbers that they show, as in
+/// [`forward_watched`]: each number grows by the flow's, as long as all of a cell stay below 2^64. The pens come back with
+/// the report; after a refusal they are gone.
+///
+/// Any thread may set `stop`. From then on each flow makes at most one more turn of its driver, and ends as cut unless it
+/// is drained: the report has all that was forwarded until then.
+#[tactic(auto, using(crate::proofs::Whole::still_whole))]
+pub fn forward_with<R: Threads + Wait + Sync, G: Gate + Sync>(
+    rt: &R,
+    alloc: Global,
+    script: &Script,
+    config: &Config,
+    gate: &G,
+    pool: &Pool,
+    pass: &mut PoolPass,
+    watch: Option<Watch<'_>>,
+    stop: Option<&AtomicBool>,
+) -> Result<(Report, Vec<FlowPens>), ForwardError>
+    requires fits { FitsIn script.now config.now }
+    requires pool { IsOf pool.now pass.old }
+    requires share { PORTS * MOST_PAIRS < pass.old.hand.share }
+    requires cells { ForSome watch (λ w. length w.cells.now ≡ PORTS * config.now.pairs) }
+    requires pens { ForSome watch (λ w. ArePensOf w.cells.now w.pens.items) }
+    ensures halted { IfErr result (λ e. Halted G.answers gate.now e) }
+    ensures flows { IfOk result (λ r. vec_len r.0.flows ≡ PORTS * config.now.pairs) }
+    ensures reports { IfOk result (λ r. (flow : ℕ) (d : _) → flow < PORTS * config.now.pairs → IsReport (plan_with (is_some stop.entry) config.now script.now flow) (slice_index_or r.0.flows.items flow d)) }
+    ensures shown { IfOk result (λ r. IfSome watch.entry (λ w. ContinueByReports w.cells.now w.pens.items r.1.items r.0.flows.items)) }
+    ensures pool { IsOf pool.now pass.new }
+    ensures share { pass.new.hand.share ≡ pass.old.hand.share }
+    ensures held { pass.new.hand.held ≡ pass.old.hand.held }
+    ensures whole { HoldsWhole pass.old.hand → HoldsWhole pass.new.hand }
+{
     let job = Job {
         script,
         config,
         gate,
     };
-    let watch = Some(Watch { cells, pens });
-    forward_over(rt, alloc, job, &pool, &mut pass, watch)
-}
-
-/// Forwards over a pool, and shows the counts of each flow if it is watched.
-fn forward_over<R: Threads + Wait + Sync, G: Gate + Sync>(
-    rt: &R,
-    alloc: Global,
-    job: Job<'_, G>,
-    pool: &Pool,
-    pass: &mut PoolPass,
-    watch: Option<Watch<'_>>,
-) -> Result<(Report, Vec<FlowPens>), ForwardError>
-    requires fits { FitsIn job.script.now job.config.now }
-    requires pool { IsOf pool.now pass.old }
-    requires share { PORTS * MOST_PAIRS < pass.old.hand.share }
-    requires cells { ForSome watch (λ w. length w.cells.now ≡ PORTS * job.config.now.pairs) }
-    requires pens { ForSome watch (λ w. ArePaired w.cells.now w.pens.items) }
-    ensures halted { IfErr result (λ e. Halted G.answers job.entry.gate.now e) }
-    ensures flows { IfOk result (λ r. vec_len r.0.flows ≡ PORTS * job.entry.config.now.pairs) }
-    ensures reports { IfOk result (λ r. (flow : ℕ) (d : _) → flow < PORTS * job.entry.config.now.pairs → IsReport (plan job.entry.config.now job.entry.script.now flow) (slice_index_or r.0.flows.items flow d)) }
-    ensures shown { IfOk result (λ r. IfSome watch.entry (λ w. ShowReports w.cells.now r.1.items r.0.flows.items)) }
-    ensures pool { IsOf pool.now pass.new }
-    ensures share { pass.new.hand.share ≡ pass.old.hand.share }
-    ensures held { pass.new.hand.held ≡ pass.old.hand.held }
-{
-    let index = Index::of(alloc, job.script, job.config.pairs)?;
-    let (rings, ends) = make_rings(alloc, job.config)?;
-    let ran = run_flows(rt, alloc, job, &index, &rings, ends, pool, pass, watch)?;
+    let index = Index::of(alloc, script, config.pairs)?;
+    let (rings, ends) = make_rings(alloc, config)?;
+    let ran = run_flows(
+        rt, alloc, job, &index, &rings, ends, pool, pass, watch, stop,
+    )?;
     if let Some(refusal) = ran.refusal {
         close_all(rt, pool, pass, rings, ran.stopped);
         return Err(refusal);

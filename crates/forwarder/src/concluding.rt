@@ -1,6 +1,5 @@
 //! The reports of all flows, once both sides of each are over.
 ghost use Rattle.std.specs.Prelude.{◌≡◌, ◌+◌, ◌≤◌, true, All, [], length, map, vec_len, vec_capacity};
-ghost use Rattle.flows.specs.Counting.{driven, driven_in, offered, offered_in};
 ghost use Rattle.flows.specs.Driven.{is_over};
 ghost use Rattle.flows.specs.Keys.{ControllerKey, DriverKey, plan_of};
 ghost use Rattle.flows.specs.Reports.{IsReport};
@@ -25,8 +24,8 @@ fn conclude_flow(
     requires of_flow_rings { AreOfRings pool.now flow_rings.now keys.0 keys.1 }
     requires pool { IsOf pool.now pass.old }
     ensures report { IsReport (plan_of keys.0 keys.1) result }
-    ensures driven { driven_in result ≡ driven driver.entry.counts }
-    ensures offered { offered_in result ≡ offered controller.entry.tally }
+    ensures driven { result.driven ≡ driver.entry.counts }
+    ensures offered { result.tally ≡ controller.entry.tally }
     ensures pool { IsOf pool.now pass.new }
     ensures share { pass.new.hand.share ≡ pass.old.hand.share + 1 }
     ensures held { pass.new.hand.held ≡ pass.old.hand.held }
@@ -60,8 +59,8 @@ pub(crate) fn conclude_all(
     requires room { length rings.now ≤ vec_capacity reports }
     ensures flows { vec_len result ≡ length rings.now }
     ensures reports { AreReports (length rings.now) (map (λ f. f.key) drivers.entry.items) (map (λ f. f.key) controllers.entry.items) result.items }
-    ensures driven { map driven_in result.items ≡ map (λ f. driven f.counts) drivers.entry.items }
-    ensures offered { map offered_in result.items ≡ map (λ f. offered f.tally) controllers.entry.items }
+    ensures driven { map (λ r. r.driven) result.items ≡ map (λ f. f.counts) drivers.entry.items }
+    ensures offered { map (λ r. r.tally) result.items ≡ map (λ f. f.tally) controllers.entry.items }
     ensures pool { IsOf pool.now pass.new }
     ensures share { pass.new.hand.share ≡ pass.old.hand.share + length rings.now }
     ensures held { pass.new.hand.held ≡ pass.old.hand.held }

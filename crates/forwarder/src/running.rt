@@ -1,10 +1,8 @@
 //! Serving all flows by workers until they are over.
-ghost use Rattle.std.specs.Option.{ForSome};
+ghost use Rattle.std.specs.Option.{ForSome, is_some};
 ghost use Rattle.std.specs.Prelude.{◌≡◌, ℕ, ◌+◌, ◌*◌, ◌<◌, ◌≤◌, true, [], None, All, IfSome, IsSome, IfOk, IfErr, length, map, vec_len, vec_capacity, slice_index_or};
 ghost use Rattle.std.specs.List.{AllZip};
-ghost use Rattle.controller.specs.Tallying.{nothing};
-ghost use Rattle.counters.specs.Paired.{ArePaired};
-ghost use Rattle.flows.specs.Counting.{driven, none, offered};
+ghost use Rattle.counters.specs.Kinds.{none_taken, nothing};
 ghost use Rattle.flows.specs.Driven.{is_over};
 ghost use Rattle.limits.specs.declared.profile.TheConstants.{MOST_PAIRS, PORTS};
 ghost use Rattle.pool.specs.Owned.{IsOf};
@@ -12,11 +10,12 @@ ghost use Rattle.flows.specs.Reports.{IsReport};
 ghost use Rattle.refusals.specs.declared.errors.ForwardError.TheVariants.{Memory};
 ghost use Rattle.settings.specs.Configs.{IsLawful};
 ghost use Rattle.forwarder.specs.Rings.{AreReady};
-ghost use Rattle.forwarder.specs.Plans.{plan};
-ghost use Rattle.forwarder.specs.ShownCounts.{ShowReports};
+ghost use Rattle.forwarder.specs.Plans.{plan_with};
+ghost use Rattle.forwarder.specs.ShownCounts.{ContinueByReports};
 ghost use Rattle.forwarder.specs.Stopped.{IsStopped};
 ghost use Rattle.teams.specs.Refusals.{Halted};
-ghost use Rattle.forwarder.specs.LiveStatistics.{ArePensOf, driven_shown, offered_shown};
+ghost use Rattle.counters.specs.Paired.{ArePensOf};
+ghost use Rattle.forwarder.specs.LiveStatistics.{AllContinue};
 
 use crate::concluding::conclude_all;
 use crate::flow_rings::{FlowRingEnds, FlowRings};
@@ -31,6 +30,7 @@ use pool::{Pool, PoolPass};
 use settings::Config;
 use std::alloc::Global;
 use std::sync::Wait;
+use std::sync::atomic::AtomicBool;
 use std::thread::Threads;
 use wire_script::Script;
 
@@ -44,8 +44,10 @@ pub(crate) struct Job<'a, G> {
 
 /// The cells that show the counts of the flows, one entry a flow in the order of the flows, and their pens.
 #[derive(Drop)]
-pub(crate) struct Watch<'w> {
+pub struct Watch<'w> {
+    /// The cells.
     pub cells: &'w [FlowCells],
+    /// The pen of each cell, at its place.
     pub pens: Vec<FlowPens>,
 }
 
@@ -81,16 +83,15 @@ fn serve_sides<'a, R: Threads + Wait + Sync, G: Gate + Sync>(
 ) -> ServedWithPens<'a>
     requires some { 0 < workers }
     requires flows { ForSome watch (λ w. (vec_len sides.drivers ≡ length w.cells.now) × (vec_len sides.controllers ≡ length w.cells.now)) }
-    requires pens { ForSome watch (λ w. ArePaired w.cells.now w.pens.items) }
-    requires counts { All (λ f. f.counts ≡ none) sides.drivers.items }
+    requires pens { ForSome watch (λ w. ArePensOf w.cells.now w.pens.items) }
+    requires counts { All (λ f. f.counts ≡ none_taken) sides.drivers.items }
     requires tallies { All (λ f. f.tally ≡ nothing) sides.controllers.items }
     ensures refused { IfSome result.served.refusal (λ e. Halted G.answers gate.now e) }
     ensures drivers { map (λ f. f.key) result.served.drivers.items ≡ map (λ f. f.key) sides.entry.drivers.items }
     ensures controllers { map (λ f. f.key) result.served.controllers.items ≡ map (λ f. f.key) sides.entry.controllers.items }
     ensures over { result.served.refusal ≡ None → All (λ f. is_over f.phase ≡ true) result.served.drivers.items }
     ensures pens { IfSome watch.entry (λ w. ArePensOf w.cells.now result.pens.items) }
-    ensures driven { IfSome watch.entry (λ w. map driven_shown result.pens.items ≡ map (λ f. driven f.counts) result.served.drivers.items) }
-    ensures offered { IfSome watch.entry (λ w. map offered_shown result.pens.items ≡ map (λ f. offered f.tally) result.served.controllers.items) }
+    ensures go_on { IfSome watch.entry (λ w. AllContinue (length w.cells.now) w.pens.items result.pens.items (map (λ f. f.tally) result.served.controllers.items) (map (λ f. f.counts) result.served.drivers.items)) }
 {
     let Some(watch) = watch else {
         let served = serve_flows(rt, alloc, gate, sides.drivers, sides.controllers, workers);
@@ -121,18 +122,19 @@ pub(crate) fn run_flows<R: Threads + Wait + Sync, G: Gate + Sync>(
     pool: &Pool,
     pass: &mut PoolPass,
     watch: Option<Watch<'_>>,
+    stop: Option<&AtomicBool>,
 ) -> Result<PassOutcome, ForwardError>
     requires lawful { IsLawful job.config.now }
     requires ready { AreReady job.config.now job.script.now index.now rings.now ends.items }
     requires pool { IsOf pool.now pass.old }
     requires share { PORTS * MOST_PAIRS < pass.old.hand.share }
     requires cells { ForSome watch (λ w. length w.cells.now ≡ PORTS * job.config.now.pairs) }
-    requires pens { ForSome watch (λ w. ArePaired w.cells.now w.pens.items) }
+    requires pens { ForSome watch (λ w. ArePensOf w.cells.now w.pens.items) }
     ensures halted { IfErr result (λ e. Halted G.answers job.entry.gate.now e) }
     ensures refused { IfOk result (λ r. IfSome r.refusal (λ e. Halted G.answers job.entry.gate.now e)) }
     ensures flows { IfOk result (λ r. r.refusal ≡ None → vec_len r.flows ≡ PORTS * job.entry.config.now.pairs) }
-    ensures reports { IfOk result (λ r. r.refusal ≡ None → (flow : ℕ) (d : _) → flow < PORTS * job.entry.config.now.pairs → IsReport (plan job.entry.config.now job.entry.script.now flow) (slice_index_or r.flows.items flow d)) }
-    ensures shown { IfOk result (λ r. r.refusal ≡ None → IfSome watch.entry (λ w. ShowReports w.cells.now r.pens.items r.flows.items)) }
+    ensures reports { IfOk result (λ r. r.refusal ≡ None → (flow : ℕ) (d : _) → flow < PORTS * job.entry.config.now.pairs → IsReport (plan_with (is_some stop.entry) job.entry.config.now job.entry.script.now flow) (slice_index_or r.flows.items flow d)) }
+    ensures shown { IfOk result (λ r. r.refusal ≡ None → IfSome watch.entry (λ w. ContinueByReports w.cells.now w.pens.items r.pens.items r.flows.items)) }
     ensures stopped { IfOk result (λ r. IsSome r.refusal → (vec_len r.stopped ≡ length rings.now) × AllZip (IsStopped pool.now) rings.now r.stopped.items) }
     ensures pool { IsOf pool.now pass.new }
     ensures refused_share { IfErr result (λ _. pass.new.hand.share ≡ pass.old.hand.share) }
@@ -146,7 +148,9 @@ pub(crate) fn run_flows<R: Threads + Wait + Sync, G: Gate + Sync>(
         gate,
     } = job;
     let (reports, rooms) = make_rooms(alloc, rings.len())?;
-    let sides = make_sides(rt, alloc, config, script, index, rings, ends, pool, pass)?;
+    let sides = make_sides(
+        rt, alloc, config, script, index, rings, ends, pool, pass, stop,
+    )?;
     let workers = config.workers as usize;
     let shown = serve_sides(rt, alloc, gate, sides, workers, watch);
     let (served, pens) = (shown.served, shown.pens);

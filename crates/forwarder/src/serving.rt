@@ -1,11 +1,10 @@
 //! Serving both sides of all flows while others watch them.
 ghost use Rattle.std.specs.Prelude.{◌≡◌, ◌<◌, true, None, All, IfSome, length, map, vec_len};
-ghost use Rattle.controller.specs.Tallying.{nothing};
-ghost use Rattle.counters.specs.Paired.{ArePaired};
-ghost use Rattle.flows.specs.Counting.{driven, none, offered};
+ghost use Rattle.counters.specs.Kinds.{none_taken, nothing};
 ghost use Rattle.flows.specs.Driven.{is_over};
 ghost use Rattle.teams.specs.Refusals.{Halted};
-ghost use Rattle.forwarder.specs.LiveStatistics.{ArePensOf, driven_shown, offered_shown};
+ghost use Rattle.counters.specs.Paired.{ArePensOf};
+ghost use Rattle.forwarder.specs.LiveStatistics.{AllContinue};
 
 use crate::wrapping::{Unwrapped, Wrapped, unwrap_all, wrap_all};
 use counters::{FlowCells, FlowPens};
@@ -24,8 +23,8 @@ pub struct ServedWithPens<'a> {
     pub pens: Vec<FlowPens>,
 }
 
-/// Serves both sides of all flows as [`serve_flows`] does, while their cells show their counts. Each argument has one
-/// entry a flow, in the order of the flows; no flow has counted anything yet, and no pen has written anything.
+/// Serves both sides of all flows as [`serve_flows`] does, while their cells go on from the numbers that they show by the
+/// flows' counts. Each argument has one entry a flow, in the order of the flows, and no flow has counted anything yet.
 #[tactic(auto, using(flows::proofs::Dealing::memory_halted))]
 pub fn serve_watched<'a, R: Threads + Wait + Sync, G: Gate + Sync>(
     rt: &R,
@@ -39,16 +38,15 @@ pub fn serve_watched<'a, R: Threads + Wait + Sync, G: Gate + Sync>(
 ) -> ServedWithPens<'a>
     requires some { 0 < workers }
     requires flows { (vec_len drivers ≡ length cells.now) × (vec_len controllers ≡ length cells.now) }
-    requires pens { ArePaired cells.now pens.items }
-    requires counts { All (λ f. f.counts ≡ none) drivers.items }
+    requires pens { ArePensOf cells.now pens.items }
+    requires counts { All (λ f. f.counts ≡ none_taken) drivers.items }
     requires tallies { All (λ f. f.tally ≡ nothing) controllers.items }
     ensures refused { IfSome result.served.refusal (λ e. Halted G.answers gate.now e) }
     ensures drivers { map (λ f. f.key) result.served.drivers.items ≡ map (λ f. f.key) drivers.entry.items }
     ensures controllers { map (λ f. f.key) result.served.controllers.items ≡ map (λ f. f.key) controllers.entry.items }
     ensures over { result.served.refusal ≡ None → All (λ f. is_over f.phase ≡ true) result.served.drivers.items }
     ensures pens { ArePensOf cells.entry.now result.pens.items }
-    ensures driven { map driven_shown result.pens.items ≡ map (λ f. driven f.counts) result.served.drivers.items }
-    ensures offered { map offered_shown result.pens.items ≡ map (λ f. offered f.tally) result.served.controllers.items }
+    ensures go_on { AllContinue (length cells.entry.now) pens.items result.pens.items (map (λ f. f.tally) result.served.controllers.items) (map (λ f. f.counts) result.served.drivers.items) }
 {
     let count = cells.len();
     let (Ok(rooms), Ok(back)) = (Wrapped::rooms(alloc, count), Unwrapped::rooms(alloc, count))
@@ -63,7 +61,7 @@ pub fn serve_watched<'a, R: Threads + Wait + Sync, G: Gate + Sync>(
             pens,
         };
     };
-    let flows = wrap_all(drivers, controllers, cells, pens, rooms);
+    let flows = wrap_all(rt, drivers, controllers, cells, pens, rooms);
     let served = serve_flows(rt, alloc, gate, flows.drivers, flows.controllers, workers);
     let back = unwrap_all(served.drivers, served.controllers, back);
     ServedWithPens {

@@ -1,20 +1,20 @@
 //! Joining flows with their cells, and separating them again.
 ghost use Rattle.std.specs.Prelude.{◌≡◌, ◌≤◌, All, [], IfOk, length, map, vec_len, vec_capacity};
-ghost use Rattle.controller.specs.Tallying.{nothing};
-ghost use Rattle.counters.specs.Paired.{ArePaired};
-ghost use Rattle.flows.specs.Counting.{driven, none, offered};
-ghost use Rattle.forwarder.specs.LiveStatistics.{driven_shown, offered_shown};
+ghost use Rattle.counters.specs.Kinds.{none_taken, nothing};
+ghost use Rattle.counters.specs.Paired.{ArePensOf};
+ghost use Rattle.forwarder.specs.LiveStatistics.{DrivenGoesOn, TallyGoesOn};
 
 use crate::live_flow::LiveFlow;
-use counters::{Driven, FlowCells, FlowPens, Offered};
+use counters::{Driven, FlowCells, FlowPens, Tally};
 use flows::{ControllerFlow, DriverFlow};
 use std::alloc::{AllocError, Global};
+use std::sync::Wait;
 
 /// Both sides of all flows, each with its cell, in the order of the flows.
 #[derive(Drop)]
 pub(crate) struct Wrapped<'a> {
     pub drivers: Vec<LiveFlow<'a, DriverFlow<'a>, Driven, 3>>,
-    pub controllers: Vec<LiveFlow<'a, ControllerFlow<'a>, Offered, 4>>,
+    pub controllers: Vec<LiveFlow<'a, ControllerFlow<'a>, Tally, 4>>,
 }
 
 /// Both sides of all flows, and the pens that showed their numbers, in the order of the flows.
@@ -58,9 +58,9 @@ impl<'a> Unwrapped<'a> {
     }
 }
 
-/// Joins both sides of each flow with their cells, in room allocated before. No flow has counted anything yet, and no
-/// pen has written anything.
-pub(crate) fn wrap_all<'a>(
+/// Joins both sides of each flow with their cells, in room allocated before. No flow has counted anything yet.
+pub(crate) fn wrap_all<'a, R: Wait>(
+    rt: &R,
     drivers: Vec<DriverFlow<'a>>,
     controllers: Vec<ControllerFlow<'a>>,
     cells: &'a [FlowCells],
@@ -69,8 +69,8 @@ pub(crate) fn wrap_all<'a>(
 ) -> Wrapped<'a>
     requires flows { (vec_len drivers ≡ length cells.now) × (vec_len controllers ≡ length cells.now) }
     requires count { vec_len pens ≡ length cells.now }
-    requires pens { ArePaired cells.now pens.items }
-    requires counts { All (λ f. f.counts ≡ none) drivers.items }
+    requires pens { ArePensOf cells.now pens.items }
+    requires counts { All (λ f. f.counts ≡ none_taken) drivers.items }
     requires tallies { All (λ f. f.tally ≡ nothing) controllers.items }
     requires none { (rooms.drivers.items ≡ []) × (rooms.controllers.items ≡ []) }
     requires room { (length cells.now ≤ vec_capacity rooms.drivers) × (length cells.now ≤ vec_capacity rooms.controllers) }
@@ -78,6 +78,8 @@ pub(crate) fn wrap_all<'a>(
     ensures controllers { map (λ w. w.flow) result.controllers.items ≡ controllers.entry.items }
     ensures drive { map (λ w. w.pen.cell) result.drivers.items ≡ map (λ c. c.drive) cells.entry.now }
     ensures stat { map (λ w. w.pen.cell) result.controllers.items ≡ map (λ c. c.stat) cells.entry.now }
+    ensures drive_base { map (λ w. w.base) result.drivers.items ≡ map (λ p. p.drive.last) pens.items }
+    ensures stat_base { map (λ w. w.base) result.controllers.items ≡ map (λ p. p.stat.last) pens.items }
 {
     let mut controllers = controllers.into_iter();
     let mut pens = pens.into_iter();
@@ -92,10 +94,10 @@ pub(crate) fn wrap_all<'a>(
         let cell = &cells[number];
         rooms
             .drivers
-            .push_reserved(LiveFlow::new(driver, &cell.drive, own.drive));
+            .push_reserved(LiveFlow::new(rt, driver, &cell.drive, own.drive));
         rooms
             .controllers
-            .push_reserved(LiveFlow::new(controller, &cell.stat, own.stat));
+            .push_reserved(LiveFlow::new(rt, controller, &cell.stat, own.stat));
         number += 1;
     }
     rooms
@@ -104,7 +106,7 @@ pub(crate) fn wrap_all<'a>(
 /// Separates both sides of each flow from their cells, in room allocated before.
 pub(crate) fn unwrap_all<'a>(
     drivers: Vec<LiveFlow<'a, DriverFlow<'a>, Driven, 3>>,
-    controllers: Vec<LiveFlow<'a, ControllerFlow<'a>, Offered, 4>>,
+    controllers: Vec<LiveFlow<'a, ControllerFlow<'a>, Tally, 4>>,
     mut room: Unwrapped<'a>,
 ) -> Unwrapped<'a>
     requires flows { vec_len controllers ≡ vec_len drivers }
@@ -114,8 +116,8 @@ pub(crate) fn unwrap_all<'a>(
     ensures controllers { result.controllers.items ≡ map (λ w. w.flow) controllers.entry.items }
     ensures drive { map (λ p. p.drive) result.pens.items ≡ map (λ w. w.pen) drivers.entry.items }
     ensures stat { map (λ p. p.stat) result.pens.items ≡ map (λ w. w.pen) controllers.entry.items }
-    ensures driven { map driven_shown result.pens.items ≡ map (λ f. driven f.counts) result.drivers.items }
-    ensures offered { map offered_shown result.pens.items ≡ map (λ f. offered f.tally) result.controllers.items }
+    ensures driven { All (λ w. DrivenGoesOn w.base w.flow.counts w.pen.last) drivers.entry.items }
+    ensures offered { All (λ w. TallyGoesOn w.base w.flow.tally w.pen.last) controllers.entry.items }
 {
     let mut controllers = controllers.into_iter();
     for driver in drivers {

@@ -1,5 +1,5 @@
 //! Forwarding frames from one queue to another, in one thread.
-//! Depends on `driver`, `controller`, `rx_ring`, `tx_ring`, `buffer_pool`, `teams`, `limits`, `refusals` and
+//! Depends on `driver`, `controller`, `counters`, `rx_ring`, `tx_ring`, `buffer_pool`, `teams`, `limits`, `refusals` and
 //! `arrayvec`.
 //! Guarantees which packets a turn ([`drive`]) took, changed and posted.
 //!

@@ -1,5 +1,9 @@
 //! The report of a flow.
+ghost use Rattle.std.specs.Prelude.{◌≡◌};
+ghost use Rattle.forwarding.specs.Reported.{counters_of};
+
 use controller::Wire;
+use counters::{Driven, FlowCounters, Tally};
 use std::fmt;
 
 /// How a flow ended.
@@ -14,22 +18,12 @@ pub enum Ended {
 /// The report of a flow: its frame counts and its wire.
 #[derive(Drop)]
 pub struct FlowReport {
-    /// The frames that were offered: stored, dropped and oversize together.
-    pub offered: u64,
-    /// The frames that were stored.
-    pub stored: u64,
+    /// The frames that were offered, and their outcomes.
+    pub tally: Tally,
     /// The bytes of the stored frames.
     pub stored_bytes: u64,
-    /// The frames that were dropped because too few descriptors were free.
-    pub dropped: u64,
-    /// The frames that need more descriptors than the ring can have free.
-    pub oversize: u64,
-    /// The frames that the driver took.
-    pub taken: u64,
-    /// The taken frames that were posted.
-    pub posted: u64,
-    /// The taken frames that were dropped because the transmit ring was full.
-    pub tx_dropped: u64,
+    /// The frames that the driver took, and what became of them.
+    pub driven: Driven,
     /// The frames that were sent, in order.
     pub wire: Wire,
     /// The segments that were stored and not taken plus those that were posted and not sent.
@@ -38,20 +32,27 @@ pub struct FlowReport {
     pub ended: Ended,
 }
 
+impl FlowReport {
+    /// Returns all counters of the flow.
+    pub fn counters(&self) -> FlowCounters
+        ensures { result ≡ counters_of self.now }
+    {
+        FlowCounters {
+            tally: self.tally,
+            driven: self.driven,
+        }
+    }
+}
+
 impl fmt::Debug for FlowReport {
     /// Writes the counts, and the number of frames on the wire in place of their bytes.
     fn fmt<W: fmt::Write>(&self, f: &mut fmt::Formatter<W>) -> fmt::Result {
         write!(
             f,
-            "FlowReport {{ offered: {}, stored: {}, stored_bytes: {}, dropped: {}, oversize: {}, ",
-            self.offered, self.stored, self.stored_bytes, self.dropped, self.oversize
-        )?;
-        write!(
-            f,
-            "taken: {}, posted: {}, tx_dropped: {}, wire: {}, left: {}, ended: {:?} }}",
-            self.taken,
-            self.posted,
-            self.tx_dropped,
+            "FlowReport {{ tally: {:?}, stored_bytes: {}, driven: {:?}, wire: {}, left: {}, ended: {:?} }}",
+            self.tally,
+            self.stored_bytes,
+            self.driven,
             self.wire.len(),
             self.left,
             self.ended

@@ -6,7 +6,7 @@ use Rattle.atomic_table.proofs.shared.Seat.TheSendSync as seat
 use Rattle.atomic_table.proofs.shared.Shared.TheSendSync as shared
 use Rattle.buffer_pool.proofs.chain.Chain.TheLaws.TheKnot.{send-Chain, sync-Chain}
 use Rattle.buffer_pool.proofs.chain.Room.TheSendSync as room
-use Rattle.controller.proofs.tally.Tally.TheSendSync as tally
+use Rattle.counters.proofs.tally.Tally.TheSendSync as tally
 use Rattle.core.proofs.marker.PhantomData.TheSendSync as phantom
 use Rattle.core.proofs.option.Option.TheSendSync as option
 use Rattle.poll82599_c.proofs.rings.partial_frame.PartialFrame.TheSendSync as begun

@@ -43,8 +43,8 @@ pub(crate) fn explain_cuts(
     let mut queue = 0usize;
     for flow in flows {
         let due = due.at(port, queue);
-        if flow.ended == Ended::Cut && flow.offered < due {
-            explain_cut(why, (port, queue), turns, due, flow.offered)?;
+        if flow.ended == Ended::Cut && flow.tally.offered < due {
+            explain_cut(why, (port, queue), turns, due, flow.tally.offered)?;
         }
         queue = queue.saturating_add(1);
         if queue == pairs {

@@ -45,16 +45,16 @@ impl Seen {
     pub fn of(flow: &FlowReport, script: &Script, config: &Config, port: u8, queue: u8) -> Seen {
         let (came, in_order) = followed(&flow.wire, script, port, queue);
         let went = Sum::of(&flow.wire);
-        let is_whole = flow.dropped == 0 && flow.tx_dropped == 0;
+        let is_whole = flow.tally.dropped == 0 && flow.driven.tx_dropped == 0;
         Seen {
-            offered: flow.offered,
-            dropped: flow.dropped,
-            tx_dropped: flow.tx_dropped,
+            offered: flow.tally.offered,
+            dropped: flow.tally.dropped,
+            tx_dropped: flow.driven.tx_dropped,
             wire: went.frames,
             sum: went.sum,
             is_right: in_order
-                && flow.offered == came.frames
-                && went.frames == flow.posted
+                && flow.tally.offered == came.frames
+                && went.frames == flow.driven.posted
                 && (!is_whole || went == came)
                 && adds_up(flow, config),
         }
@@ -65,12 +65,12 @@ impl Seen {
 fn adds_up(flow: &FlowReport, config: &Config) -> bool {
     flow.ended == Ended::Drained
         && flow.left == 0
-        && flow.oversize == 0
-        && flow.offered == flow.stored.saturating_add(flow.dropped)
-        && flow.stored == flow.taken
-        && flow.taken == flow.posted.saturating_add(flow.tx_dropped)
-        && (config.drop_en || flow.dropped == 0)
-        && (!config.retry || flow.tx_dropped == 0)
+        && flow.tally.oversize == 0
+        && flow.tally.offered == flow.tally.stored.saturating_add(flow.tally.dropped)
+        && flow.tally.stored == flow.driven.taken
+        && flow.driven.taken == flow.driven.posted.saturating_add(flow.driven.tx_dropped)
+        && (config.drop_en || flow.tally.dropped == 0)
+        && (!config.retry || flow.driven.tx_dropped == 0)
 }
 
 impl fmt::Display for Seen {

@@ -275,7 +275,8 @@ fn debug_texts_name_each_number(rt: HostRuntime) {
     same(
         &rt,
         text.as_str(),
-        "Some(FlowReport { offered: 10, stored: 10, stored_bytes: 15000, dropped: 0, oversize: 0, \
-         taken: 10, posted: 10, tx_dropped: 0, wire: 10, left: 0, ended: Drained })",
+        "Some(FlowReport { tally: Tally { offered: 10, stored: 10, dropped: 0, oversize: 0 }, \
+         stored_bytes: 15000, driven: Driven { taken: 10, posted: 10, tx_dropped: 0 }, \
+         wire: 10, left: 0, ended: Drained })",
     );
 }

@@ -19,13 +19,13 @@ pub(crate) const NONE: Counts = [0; 9];
 
 pub(crate) fn counts_of(flow: &FlowReport) -> Counts {
     [
-        flow.offered,
-        flow.stored,
-        flow.dropped,
-        flow.oversize,
-        flow.taken,
-        flow.posted,
-        flow.tx_dropped,
+        flow.tally.offered,
+        flow.tally.stored,
+        flow.tally.dropped,
+        flow.tally.oversize,
+        flow.driven.taken,
+        flow.driven.posted,
+        flow.driven.tx_dropped,
         flow.wire.len() as u64,
         flow.left,
     ]

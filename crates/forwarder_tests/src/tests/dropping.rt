@@ -39,12 +39,12 @@ fn follows(wire: &Wire, script: &Script) -> bool {
 /// Whether a flow is drained, and lost exactly the frames that it counts as dropped.
 fn adds_up(flow: &FlowReport) -> bool {
     flow.ended == Ended::Drained
-        && flow.offered == 250
-        && flow.offered == flow.stored.saturating_add(flow.dropped)
-        && flow.stored == flow.taken
-        && flow.taken == flow.posted.saturating_add(flow.tx_dropped)
-        && flow.posted == flow.wire.len() as u64
-        && flow.oversize == 0
+        && flow.tally.offered == 250
+        && flow.tally.offered == flow.tally.stored.saturating_add(flow.tally.dropped)
+        && flow.tally.stored == flow.driven.taken
+        && flow.driven.taken == flow.driven.posted.saturating_add(flow.driven.tx_dropped)
+        && flow.driven.posted == flow.wire.len() as u64
+        && flow.tally.oversize == 0
         && flow.left == 0
 }
 
@@ -67,7 +67,7 @@ fn is_counted<R: Threads + Wait + Sync + Abort>(
     let Some(flow) = report.flows.first() else {
         return false;
     };
-    let allowed = (drop_en || flow.dropped == 0) && (!retry || flow.tx_dropped == 0);
+    let allowed = (drop_en || flow.tally.dropped == 0) && (!retry || flow.driven.tx_dropped == 0);
     allowed && adds_up(flow) && follows(&flow.wire, script)
 }
 

@@ -340,21 +340,34 @@ impl Gate for Midway {
     }
 }
 
-/// Counts the turns in which flow 1's driver came to its transmit batch.
+/// Counts the turns in which flow 1's driver came to its transmit batch, and sets a flag at one of them.
 #[derive(Drop)]
 pub(crate) struct Turns {
     made: AtomicU64,
+    /// The turn at which the flag is set; 0 for none.
+    at: u64,
+    flag: AtomicBool,
 }
 
 impl Turns {
     pub(crate) fn new() -> Turns {
+        Turns::with_flag_at(0)
+    }
+
+    pub(crate) fn with_flag_at(at: u64) -> Turns {
         Turns {
             made: AtomicU64::new(0),
+            at,
+            flag: AtomicBool::new(false),
         }
     }
 
     pub(crate) fn made(&self) -> u64 {
         self.made.load(Ordering::SeqCst)
+    }
+
+    pub(crate) fn flag(&self) -> &AtomicBool {
+        &self.flag
     }
 }
 
@@ -365,7 +378,10 @@ impl Gate for Turns {
 
     fn pass(&self, who: Who, event: Event) -> bool {
         if let (Who::Driver(1), Event::TxBatch) = (who, event) {
-            self.made.fetch_add(1, Ordering::SeqCst);
+            let before = self.made.fetch_add(1, Ordering::SeqCst);
+            if before.checked_add(1) == Some(self.at) {
+                self.flag.store(true, Ordering::SeqCst);
+            }
         }
         true
     }

@@ -2,7 +2,7 @@
 ghost use Rattle.std.specs.Prelude.{◌≡◌};
 ghost use Rattle.counters.specs.Paired.{ArePaired, IsFresh};
 
-use counters::{DrivePass, Driven, FlowCells, FlowPens, Offered, StatPass};
+use counters::{DrivePass, FlowCells, FlowCounters, FlowPens, StatPass};
 use flows::FlowReport;
 use std::alloc::Global;
 use std::process::Abort;
@@ -33,7 +33,22 @@ impl<'c> Reader<'c> {
     pub(crate) fn sees<R: Wait>(&mut self, rt: &R, report: &FlowReport) -> bool {
         let offered = self.cells.stat.read(rt, &mut self.stat);
         let driven = self.cells.drive.read(rt, &mut self.drive);
-        offered == offered_of(report) && driven == driven_of(report)
+        offered == report.tally && driven == report.driven
+    }
+
+    /// Whether both cells have twice the numbers of the report now.
+    pub(crate) fn sees_twice<R: Wait>(&mut self, rt: &R, report: &FlowReport) -> bool {
+        let offered = self.cells.stat.read(rt, &mut self.stat);
+        let driven = self.cells.drive.read(rt, &mut self.drive);
+        let shown = FlowCounters {
+            tally: offered,
+            driven,
+        };
+        let mut good = true;
+        for (now, once) in shown.entries().iter().zip(report.counters().entries().iter()) {
+            good &= now.value == once.value.saturating_mul(2);
+        }
+        good
     }
 }
 
@@ -54,23 +69,4 @@ pub(crate) fn readers_of<'c, R: Abort>(
             .expect(rt, "a reader");
     }
     readers
-}
-
-/// The counts of the controller's side of a flow.
-fn offered_of(report: &FlowReport) -> Offered {
-    Offered {
-        offered: report.offered,
-        stored: report.stored,
-        dropped: report.dropped,
-        oversize: report.oversize,
-    }
-}
-
-/// The counts of the driver's side of a flow.
-fn driven_of(report: &FlowReport) -> Driven {
-    Driven {
-        taken: report.taken,
-        posted: report.posted,
-        tx_dropped: report.tx_dropped,
-    }
 }

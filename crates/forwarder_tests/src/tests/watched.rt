@@ -1,18 +1,22 @@
 //! Cells show the counts of flows while they run.
 ghost use Rattle.std.specs.Prelude.{◌≡◌, length};
-ghost use Rattle.counters.specs.Paired.{ArePaired};
+ghost use Rattle.counters.specs.Paired.{ArePaired, ArePensOf};
+ghost use Rattle.pool.specs.Owned.{IsOf};
+ghost use Rattle.pool.specs.declared.hand.TheConstants.{WHOLE_SHARE};
+ghost use Rattle.settings.specs.Configs.{FitsIn};
 
-use crate::tests::bursts::{FORTY, FORTY_COUNTS, script_of};
+use crate::tests::bursts::{Burst, FORTY, FORTY_COUNTS, FRAME, script_of};
 use crate::tests::configs::SHORT;
-use crate::tests::counted::is_drained;
+use crate::tests::counted::{Counts, NONE, is_drained};
 use crate::tests::gates::Paced;
 use crate::tests::readers::{Reader, readers_of};
 use crate::tests::trials::{Asked, ONCE, Trial, each_is_so};
 use crate::tests::wanted::holds;
 use counters::{DriveCell, DrivePass, Driven, FlowCells, FlowPens, Snapshot, StatCell, StatPass};
 use flows::FlowReport;
-use forwarder::{Config, Report, forward_watched};
+use forwarder::{Config, Report, Watch, forward_watched, forward_with};
 use forwarding::{ForwardError, Open};
+use pool::{Pool, PoolPass};
 use std::alloc::Global;
 use std::process::Abort;
 use std::sync::Wait;
@@ -49,6 +53,79 @@ pub(crate) fn are_shown<R: Threads + Wait + Sync + Abort>(rt: &R, trial: Trial<'
 #[test]
 fn each_cell_shows_its_report(rt: HostRuntime) {
     each_is_so(&rt, rt.alloc(), Asked::AreShown, FORTY, ONCE);
+}
+
+/// 40 frames for port 0, queue 1, and a frame for port 1, queue 0.
+const MORE: &[Burst] = &[
+    Burst {
+        queue: 1,
+        count: 40,
+        ..FRAME
+    },
+    Burst { port: 1, ..FRAME },
+];
+
+/// Their counts with two pairs.
+const MORE_COUNTS: &[Counts] = &[
+    NONE,
+    [40, 40, 0, 0, 40, 40, 0, 40, 0],
+    [1, 1, 0, 0, 1, 1, 0, 1, 0],
+    NONE,
+];
+
+/// Whether the cells go on when a script is forwarded twice over one pool: each reader sees the counts of both times.
+fn go_on<R: Threads + Wait + Sync + Abort>(
+    rt: &R,
+    alloc: Global,
+    script: &Script,
+    pool: &Pool,
+    pass: &mut PoolPass,
+    readers: &mut [Reader<'_>],
+    watch: Watch<'_>,
+) -> bool
+    requires fits { FitsIn script.now SHORT }
+    requires pool { IsOf pool.now pass.old }
+    requires share { pass.old.hand.share ≡ WHOLE_SHARE }
+    requires cells { length watch.cells.now ≡ 4 }
+    requires pens { ArePensOf watch.cells.now watch.pens.items }
+{
+    let cells = watch.cells;
+    let (_, pens) = forward_with(
+        rt,
+        alloc,
+        script,
+        &SHORT,
+        &Open,
+        pool,
+        pass,
+        Some(watch),
+        None,
+    ).expect(rt, "a report");
+    let again = Some(Watch { cells, pens });
+    let (report, _) = forward_with(
+        rt, alloc, script, &SHORT, &Open, pool, pass, again, None,
+    ).expect(rt, "another report");
+    let mut good = readers.len() == report.flows.len();
+    for (reader, flow) in readers.iter_mut().zip(report.flows.iter()) {
+        good &= reader.sees_twice(rt, flow);
+    }
+    good && is_drained(&report, script, 2, MORE_COUNTS)
+}
+
+#[test]
+fn cells_go_on(rt: HostRuntime) {
+    let script = script_of(&rt, rt.alloc(), MORE);
+    SHORT.check(&script).expect(&rt, "a lawful configuration");
+    let (pool, mut pass) = Pool::new(&rt, rt.alloc(), SHORT.buffers).expect(&rt, "a pool");
+    let (cells, mut pens) = FlowCells::of(rt.alloc(), 4).expect(&rt, "cells");
+    let mut readers = readers_of(&rt, rt.alloc(), &cells, &mut pens);
+    let watch = Watch { cells: &cells, pens };
+    holds(
+        &rt,
+        go_on(
+            &rt, rt.alloc(), &script, &pool, &mut pass, &mut readers, watch,
+        ),
+    );
 }
 
 /// The maximum number of reads of a reader.

@@ -1,9 +1,9 @@
 //! Makes a cell, and times its threads.
 ghost use Rattle.std.specs.Prelude.{◌≡◌};
-ghost use Rattle.counters.specs.Kinds.{none_offered};
+ghost use Rattle.counters.specs.Kinds.{nothing};
 
 use anyhow::Result;
-use counters::{Offered, StatCell, StatPass, StatPen};
+use counters::{StatCell, StatPass, StatPen, Tally};
 use std::alloc::Global;
 use std::rt::Clock;
 use std::sync::Wait;
@@ -11,10 +11,10 @@ use std::thread::{Threads, join};
 use std::time::{Duration, Instant};
 
 /// The counts after `frames` frames, if all of them were stored.
-fn all_stored(frames: u64) -> Offered
+fn all_stored(frames: u64) -> Tally
     ensures { result ≡ record { offered = frames; stored = frames; dropped = 0; oversize = 0 } }
 {
-    Offered {
+    Tally {
         offered: frames,
         stored: frames,
         dropped: 0,
@@ -55,7 +55,7 @@ fn write_beside<R: Threads + Wait + Sync>(
     readers: u32,
 ) -> u32
     requires pen { pen.cell ≡ cell.now }
-    requires opening { pen.last ≡ none_offered }
+    requires opening { pen.last ≡ nothing }
     requires pass { pass.cell ≡ cell.now }
 {
     if readers == 0 {
@@ -103,7 +103,7 @@ fn read_in<R: Threads + Wait + Sync>(
 /// Writes `writes` times, each time with one more frame.
 fn write_all<R: Wait>(rt: &R, cell: &StatCell, mut pen: StatPen, writes: u32)
     requires own { pen.cell ≡ cell.now }
-    requires opening { pen.last ≡ none_offered }
+    requires opening { pen.last ≡ nothing }
 {
     for written in 0..writes {
         cell.write(rt, &mut pen, all_stored(u64::from(written) + 1));

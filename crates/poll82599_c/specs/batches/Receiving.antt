@@ -18,7 +18,7 @@ use Rattle.driver.specs.receive.Receiver.{Receiver, hands}
 use Rattle.driver.specs.receive.Returns.{GaveBack, IsEmptied}
 use Rattle.controller.specs.Handshaking.{TurnedControl}
 use Rattle.controller.specs.Receiving.{Finished, Receiving, WasDropped, WasHeld, WasOff, WasOversize, WasRefused, WasStored}
-use Rattle.controller.specs.Tallying.{nothing}
+use Rattle.counters.specs.Kinds.{nothing}
 use Rattle.poll82599_c.specs.Held.{Between, Both, Of, OfBoth}
 use Rattle.poll82599_c.specs.batches.Packets.{Worked}
 use Rattle.poll82599_c.specs.batches.Queues.{DidAlike, Kind, TriedLive, TriedReclaim}

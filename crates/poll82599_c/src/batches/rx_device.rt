@@ -1,6 +1,6 @@
 //! The device of a receive queue: its controller, and the ring that it shares.
 ghost use Rattle.std.specs.Prelude.{◌≡◌, ◌≢◌, true, false};
-ghost use Rattle.controller.specs.Tallying.{AddsUp};
+ghost use Rattle.counters.specs.Kinds.{AddsUp};
 ghost use Rattle.poll82599_c.specs.batches.Receiving.{TriedOffer, TriedQuiet, Turned};
 
 use crate::half::Half;

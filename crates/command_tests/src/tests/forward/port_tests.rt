@@ -120,12 +120,12 @@ fn counts_at(report: &Report, port: u8, queue: u8) -> Option<[u64; 6]> {
         sent = sent.saturating_add(frame.len() as u64);
     }
     Some([
-        flow.stored,
+        flow.tally.stored,
         flow.stored_bytes,
-        flow.dropped,
+        flow.tally.dropped,
         flow.wire.len() as u64,
         sent,
-        flow.tx_dropped,
+        flow.driven.tx_dropped,
     ])
 }
 
@@ -188,7 +188,7 @@ fn drops(report: &Report) -> bool {
     report
         .flows
         .iter()
-        .all(|flow| flow.dropped > 0 && flow.tx_dropped > 0)
+        .all(|flow| flow.tally.dropped > 0 && flow.driven.tx_dropped > 0)
 }
 
 #[test]

@@ -1,5 +1,4 @@
 use Rattle.std.proofs.Common.{rules, ◌≡◌, ◌∙◌, ◌<◌, length, get_or, ap, sym, subst, arith}
-use Rattle.pool.specs.Owned.{IsOf}
 use Rattle.forwarder.proofs.Plans.{drop-first, drop-later, drop-within}
 use Rattle.forwarder.specs.Rings.{AreEnds}
 use Rattle.forward_bench.proofs.sides.make_sides.Goals as goal
@@ -24,13 +23,12 @@ loop-own-preserved g c =
     let was = c.loop-own.invariant in
     let n = c.loop-own.number in
     let first = sym was.ends ∙ c.in-Some.ensures.steps.0 in
-    let kept = c.split-share.ensures.kept in
     record {
       ends = drop-later n c.args.ends.items c.in-Some.own _ first;
       count = search rules;
       drivers = search rules;
       controllers = search rules;
       room = search rules;
-      pool = subst (IsOf c.args.pool.now) (sym kept) (record { pool = was.pool.pool; count = was.pool.count });
-      share = (let less = ap (λ p. p.hand.share) kept in omega (arith, less, was.share));
+      pool = search rules;
+      share = omega (arith, c.make_side-side.ensures.share, was.share);
     }

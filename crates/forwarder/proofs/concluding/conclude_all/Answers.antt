@@ -1,7 +1,6 @@
 use Rattle.std.proofs.Common.{rules, ◌≡◌, ◌∙◌, [], ◌∷◌, ◌++◌, true, length, map, get_or, ap, sym, subst, refl}
 use Rattle.std.specs.Vec.Iter.{into_iter_items, into_iter_len}
 use Rattle.std.proofs.lemmas.List.{map-append}
-use Rattle.flows.specs.Counting.{driven, driven_in, offered, offered_in}
 use Rattle.flows.specs.Driven.{is_over}
 use Rattle.flows.specs.Keys.{ControllerKey, DriverKey, plan_of}
 use Rattle.flows.specs.Reports.{IsReport}
@@ -54,10 +53,10 @@ loop-driver-preserved c =
       pool = c.conclude_flow-report.ensures.pool;
       share = (let more = c.conclude_flow-report.ensures.share in let so = was.share in search rules);
       held = c.conclude_flow-report.ensures.held ∙ was.held;
-      driven = moved (map driven_in reports) (map driven_in reports') (map (λ f. driven f.counts) (into_iter_items c.loop-driver.driver-iterator)) (map (λ f. driven f.counts) (into_iter_items c.next.new.self)) (map (λ f. driven f.counts) drivers) (driven driver.counts) was.driven
-          (ap (map (λ f. driven f.counts)) c.in-Some.ensures.steps.0) (ap (map driven_in) pushed ∙ map-append driven_in reports (report ∷ []) ∙ ap (λ n. map driven_in reports ++ n ∷ []) c.conclude_flow-report.ensures.driven);
-      offered = moved (map offered_in reports) (map offered_in reports') (map (λ f. offered f.tally) (into_iter_items c.loop-driver.controllers)) (map (λ f. offered f.tally) (into_iter_items c.next-in-loop-driver.new.self)) (map (λ f. offered f.tally) controllers) (offered controller.tally) was.offered
-          (ap (map (λ f. offered f.tally)) other) (ap (map offered_in) pushed ∙ map-append offered_in reports (report ∷ []) ∙ ap (λ n. map offered_in reports ++ n ∷ []) c.conclude_flow-report.ensures.offered);
+      driven = moved (map (λ r. r.driven) reports) (map (λ r. r.driven) reports') (map (λ f. f.counts) (into_iter_items c.loop-driver.driver-iterator)) (map (λ f. f.counts) (into_iter_items c.next.new.self)) (map (λ f. f.counts) drivers) driver.counts was.driven
+          (ap (map (λ f. f.counts)) c.in-Some.ensures.steps.0) (ap (map (λ r. r.driven)) pushed ∙ map-append (λ r. r.driven) reports (report ∷ []) ∙ ap (λ n. map (λ r. r.driven) reports ++ n ∷ []) c.conclude_flow-report.ensures.driven);
+      offered = moved (map (λ r. r.tally) reports) (map (λ r. r.tally) reports') (map (λ f. f.tally) (into_iter_items c.loop-driver.controllers)) (map (λ f. f.tally) (into_iter_items c.next-in-loop-driver.new.self)) (map (λ f. f.tally) controllers) controller.tally was.offered
+          (ap (map (λ f. f.tally)) other) (ap (map (λ r. r.tally)) pushed ∙ map-append (λ r. r.tally) reports (report ∷ []) ∙ ap (λ n. map (λ r. r.tally) reports ++ n ∷ []) c.conclude_flow-report.ensures.offered);
       reports = (λ flow d k r low. list-more (λ i report. (a : DriverKey) (b : ControllerKey) → IsReport (plan_of (get_or (map (λ f. f.key) drivers) i a) (get_or (map (λ f. f.key) controllers) i b)) report)
           c.loop-driver.reports.items c.push_reserved.new.self.items c.conclude_flow-report.result n (search rules) c.push_reserved.ensures.items
           (λ a b. subst (λ p. IsReport (plan_of p (get_or (map (λ f. f.key) controllers) n b)) c.conclude_flow-report.result) (sym (key a))

@@ -1,6 +1,5 @@
 use Rattle.std.proofs.Common.{◌≡◌, ◌+◌, ◌++◌, map, length, vec_items}
 use Rattle.std.specs.Vec.Iter.{into_iter_items, into_iter_len}
-use Rattle.flows.specs.Counting.{driven, driven_in, offered, offered_in}
 use Rattle.pool.specs.Owned.{IsOf}
 use Rattle.forwarder.specs.Plans.{AreReports}
 use Rattle.forwarder.proofs.Walking.{Meets}
@@ -17,7 +16,7 @@ invariant-loop-driver l =
       pool : IsOf l.pool l.pass;
       share : l.pass.hand.share ≡ l.initial.pass.hand.share + l.number;
       held : l.pass.hand.held ≡ l.initial.pass.hand.held;
-      driven : map driven_in (vec_items l.reports) ++ map (λ f. driven f.counts) (into_iter_items l.driver-iterator) ≡ map (λ f. driven f.counts) l.fn.drivers.items;
-      offered : map offered_in (vec_items l.reports) ++ map (λ f. offered f.tally) (into_iter_items l.controllers) ≡ map (λ f. offered f.tally) l.fn.controllers.items;
+      driven : map (λ r. r.driven) (vec_items l.reports) ++ map (λ f. f.counts) (into_iter_items l.driver-iterator) ≡ map (λ f. f.counts) l.fn.drivers.items;
+      offered : map (λ r. r.tally) (vec_items l.reports) ++ map (λ f. f.tally) (into_iter_items l.controllers) ≡ map (λ f. f.tally) l.fn.controllers.items;
       reports : AreReports l.number (map (λ f. f.key) l.fn.drivers.items) (map (λ f. f.key) l.fn.controllers.items) (vec_items l.reports);
     }

@@ -1,12 +1,14 @@
 use Rattle.std.proofs.Common.{rules, ◌≡◌, ◌∙◌, ◌*◌, ap, length, map, sym, subst, arith}
-use Rattle.std.specs.Option.{is_some}
+use Rattle.std.specs.Option.{is_some, IfSome}
 use Rattle.std.specs.Prelude.{slice_index_or}
 use Rattle.std.proofs.lemmas.Bool.{false≢true}
 use Rattle.std.proofs.lemmas.List.{length-map}
 use Rattle.flows.specs.Reports.{IsReport}
 use Rattle.limits.specs.declared.profile.TheConstants.{PORTS}
-use Rattle.forwarder.specs.Plans.{plan}
+use Rattle.forwarder.specs.Plans.{plan_with}
 use Rattle.forwarder.proofs.Plans.{rings-of, reports-of, sides-at}
+use Rattle.forwarder.specs.ShownCounts.{ContinueByReports}
+use Rattle.forwarder.proofs.Continuing.{watched}
 use Rattle.forwarder.proofs.running.run_flows.Goals as goal
 use Rattle.forwarder.proofs.running.run_flows.Goals.{then-is_some, else-is_some}
 
@@ -22,7 +24,7 @@ pub stop_all-requires-clause-rings : goal.stop_all-requires-clause-rings
 stop_all-requires-clause-rings g c =
     let sides = c.in_ok-sides.sides in
     let served = c.serve_sides-shown.result.served in
-    rings-of c.args.pool.now (PORTS * c.args.job.config.now.pairs) (length c.args.rings.now) (plan c.args.job.config.now c.args.job.script.now) c.args.rings.now
+    rings-of c.args.pool.now (PORTS * c.args.job.config.now.pairs) (length c.args.rings.now) (plan_with (is_some c.args.stop) c.args.job.config.now c.args.job.script.now) c.args.rings.now
     (map (λ f. f.key) sides.drivers.items) (map (λ f. f.key) served.drivers.items) (map (λ f. f.key) sides.controllers.items) (map (λ f. f.key) served.controllers.items)
     (sym c.requires.ready.all_rings) c.serve_sides-shown.ensures.drivers c.serve_sides-shown.ensures.controllers c.in_ok-sides.ensures.sides
 
@@ -38,7 +40,7 @@ pub conclude_all-flows-requires-clause-rings : goal.conclude_all-flows-requires-
 conclude_all-flows-requires-clause-rings g c =
     let sides = c.in_ok-sides.sides in
     let served = c.serve_sides-shown.result.served in
-    rings-of c.args.pool.now (PORTS * c.args.job.config.now.pairs) (length c.args.rings.now) (plan c.args.job.config.now c.args.job.script.now) c.args.rings.now
+    rings-of c.args.pool.now (PORTS * c.args.job.config.now.pairs) (length c.args.rings.now) (plan_with (is_some c.args.stop) c.args.job.config.now c.args.job.script.now) c.args.rings.now
     (map (λ f. f.key) sides.drivers.items) (map (λ f. f.key) served.drivers.items) (map (λ f. f.key) sides.controllers.items) (map (λ f. f.key) served.controllers.items)
     (sym c.requires.ready.all_rings) c.serve_sides-shown.ensures.drivers c.serve_sides-shown.ensures.controllers c.in_ok-sides.ensures.sides
 
@@ -47,7 +49,7 @@ returns-clause-reports g c = λ none flow r low.
     let sides = c.in_ok-sides.sides in
     let served = c.serve_sides-shown.result.served in
     let n = length c.args.rings.now in
-    let plans = plan c.args.job.config.now c.args.job.script.now in
+    let plans = plan_with (is_some c.args.stop) c.args.job.config.now c.args.job.script.now in
     let ds = map (λ f. f.key) sides.drivers.items in
     let cs = map (λ f. f.key) sides.controllers.items in
     let ds' = map (λ f. f.key) served.drivers.items in
@@ -62,4 +64,15 @@ returns-clause-reports g c = λ none flow r low.
           (reports-of c.args.pool.now n plans c.args.rings.now ds' cs' w.conclude_all-flows.result.items (omega arith) many many'
           (sides-at c.args.pool.now (PORTS * c.args.job.config.now.pairs) n plans c.args.rings.now ds ds' cs cs' (sym c.requires.ready.all_rings) c.serve_sides-shown.ensures.drivers c.serve_sides-shown.ensures.controllers c.in_ok-sides.ensures.sides)
           w.conclude_all-flows.ensures.reports flow r (omega (arith, low, c.requires.ready.all_rings)))
+    ]
+
+pub returns-clause-shown : goal.returns-clause-shown
+returns-clause-shown g c = λ none.
+    let served = c.serve_sides-shown.result.served in
+    elim c.if-is_some.branch [
+      | then-is_some w ↦ absurd (false≢true (sym (w.if-is_some.ensures ∙ ap is_some none)))
+      | else-is_some w ↦ (let all = w.conclude_all-flows.ensures in let sides = c.in_ok-sides.ensures.flows in let ready = c.requires.ready.all_rings in
+          subst (λ p. IfSome c.args.watch (λ x. ContinueByReports x.cells.now x.pens.items c.serve_sides-shown.result.pens.items p.0.items)) (sym w.flows-is)
+          (watched c.args.watch c.serve_sides-shown.result.pens.items _ _ w.conclude_all-flows.result.items (λ x is. (let many = c.requires.cells x is in let flows = all.flows in omega (arith, many, flows, ready)))
+          all.offered all.driven c.serve_sides-shown.ensures.pens c.serve_sides-shown.ensures.go_on))
     ]

@@ -1,17 +1,15 @@
-use Rattle.std.proofs.Common.{rules, arith, ◌≡◌, ◌≤◌, true, All, length, map, sym, subst, ap, vec_capacity}
-use Rattle.std.proofs.lemmas.Slice.Zip.{AllZip-long}
+use Rattle.std.proofs.Common.{rules, arith, ◌≡◌, ◌∙◌, ◌≤◌, true, All, length, map, sym, subst, ap, vec_capacity}
+use Rattle.std.proofs.lemmas.List.{length-map}
+use Rattle.std.proofs.lemmas.Simd.{map-map}
 use denote.Param.Send.{sendable}
 use Rattle.std.proofs.Crossing.{crosses}
 use Rattle.counters.proofs.cell.SnapshotCell.TheSendSync as Cell
 use Rattle.counters.proofs.cell.SnapshotPen.TheSendSync as Pen
 use Rattle.flows.proofs.Sent.{controller_flow, driver_flow}
-use Rattle.counters.specs.Paired.{IsFresh}
-use Rattle.controller.specs.Tallying.{nothing}
-use Rattle.flows.specs.Counting.{driven, none, offered}
 use Rattle.flows.specs.Driven.{is_over}
-use Rattle.forwarder.specs.LiveStatistics.{driven_shown, offered_shown}
-use Rattle.forwarder.proofs.Fresh.{alike, none-shown, pens-of}
-use Rattle.forwarder.proofs.Moving.{all-map, as-many, keys-of, marks-by, marks-of}
+use Rattle.forwarder.specs.LiveStatistics.{DrivenGoesOn, TallyGoesOn}
+use Rattle.forwarder.proofs.Continuing.{continue-all, pens-count, still}
+use Rattle.forwarder.proofs.Moving.{all-map, as-many, bases-of, by-parts, cells-of, keys-of, marks-by}
 use Rattle.forwarder.proofs.serving.serve_watched.Goals as goal
 use Rattle.forwarder.proofs.serving.serve_watched.Goals.{After-serve_flows-served}
 
@@ -24,17 +22,17 @@ pub serve_flows-served-requires-send-C : goal.serve_flows-served-requires-send-C
 serve_flows-served-requires-send-C g c κs = search watched depth 60 fits 20000
 
 pub wrap_all-flows-requires-clause-count : goal.wrap_all-flows-requires-clause-count
-wrap_all-flows-requires-clause-count g c = let long = AllZip-long IsFresh c.args.cells.now c.args.pens.items c.requires.pens in omega (arith, long)
+wrap_all-flows-requires-clause-count g c = let count = pens-count c.args.cells.now c.args.pens.items c.requires.pens in omega (arith, count)
 
 -- as many came back as there are cells
 back-drivers : (g : _) (c : After-serve_flows-served g) → length c.serve_flows-served.result.drivers.items ≡ length c.args.cells.now
 back-drivers g c =
-    let back = as-many (λ f. f.key) (λ w. w.flow) (λ w. w.pen.cell) c.serve_flows-served.result.drivers.items c.wrap_all-flows.result.drivers.items c.serve_flows-served.ensures.drivers c.args.drivers.items c.wrap_all-flows.ensures.drivers in
+    let back = as-many (λ f. f.key) (λ w. w.flow) (λ w. (w.pen.cell, w.base)) c.serve_flows-served.result.drivers.items c.wrap_all-flows.result.drivers.items c.serve_flows-served.ensures.drivers c.args.drivers.items c.wrap_all-flows.ensures.drivers in
     omega (arith, back, c.requires.flows.0)
 
 back-controllers : (g : _) (c : After-serve_flows-served g) → length c.serve_flows-served.result.controllers.items ≡ length c.args.cells.now
 back-controllers g c =
-    let back = as-many (λ f. f.key) (λ w. w.flow) (λ w. w.pen.cell) c.serve_flows-served.result.controllers.items c.wrap_all-flows.result.controllers.items c.serve_flows-served.ensures.controllers c.args.controllers.items c.wrap_all-flows.ensures.controllers in
+    let back = as-many (λ f. f.key) (λ w. w.flow) (λ w. (w.pen.cell, w.base)) c.serve_flows-served.result.controllers.items c.wrap_all-flows.result.controllers.items c.serve_flows-served.ensures.controllers c.args.controllers.items c.wrap_all-flows.ensures.controllers in
     omega (arith, back, c.requires.flows.1)
 
 pub unwrap_all-back-requires-clause-flows : goal.unwrap_all-back-requires-clause-flows
@@ -57,43 +55,59 @@ pub returns-clause-drivers : goal.returns-clause-drivers
 returns-clause-drivers g c =
     let served = c.serve_flows-served in
     let given = c.wrap_all-flows.result in
-    keys-of (λ f. f.key) (λ w. w.flow) (λ w. w.pen.cell) served.result.drivers.items given.drivers.items served.ensures.drivers c.args.drivers.items c.unwrap_all-back.result.drivers.items c.wrap_all-flows.ensures.drivers c.unwrap_all-back.ensures.drivers
+    keys-of (λ f. f.key) (λ w. w.flow) (λ w. (w.pen.cell, w.base)) served.result.drivers.items given.drivers.items served.ensures.drivers c.args.drivers.items c.unwrap_all-back.result.drivers.items c.wrap_all-flows.ensures.drivers c.unwrap_all-back.ensures.drivers
 
 pub returns-clause-controllers : goal.returns-clause-controllers
 returns-clause-controllers g c =
     let served = c.serve_flows-served in
     let given = c.wrap_all-flows.result in
-    keys-of (λ f. f.key) (λ w. w.flow) (λ w. w.pen.cell) served.result.controllers.items given.controllers.items served.ensures.controllers c.args.controllers.items c.unwrap_all-back.result.controllers.items c.wrap_all-flows.ensures.controllers c.unwrap_all-back.ensures.controllers
+    keys-of (λ f. f.key) (λ w. w.flow) (λ w. (w.pen.cell, w.base)) served.result.controllers.items given.controllers.items served.ensures.controllers c.args.controllers.items c.unwrap_all-back.result.controllers.items c.wrap_all-flows.ensures.controllers c.unwrap_all-back.ensures.controllers
 
 pub returns-clause-over : goal.returns-clause-over
 returns-clause-over g c = λ none.
     subst (All (λ f. is_over f.phase ≡ true)) (sym c.unwrap_all-back.ensures.drivers)
     (all-map (λ f. is_over f.phase ≡ true) (λ w. w.flow) c.serve_flows-served.result.drivers.items (c.serve_flows-served.ensures.over none))
 
+-- the cells of the flows that came back, and the numbers that these cells showed before
+drive-cells : (g : _) (c : After-serve_flows-served g) → map (λ w. w.pen.cell) c.serve_flows-served.result.drivers.items ≡ map (λ x. x.drive) c.args.cells.now
+drive-cells g c = cells-of (λ f. f.key) (λ w. w.flow) (λ w. w.pen.cell) (λ w. w.base) c.serve_flows-served.result.drivers.items c.wrap_all-flows.result.drivers.items _ c.serve_flows-served.ensures.drivers c.wrap_all-flows.ensures.drive
+
+stat-cells : (g : _) (c : After-serve_flows-served g) → map (λ w. w.pen.cell) c.serve_flows-served.result.controllers.items ≡ map (λ x. x.stat) c.args.cells.now
+stat-cells g c = cells-of (λ f. f.key) (λ w. w.flow) (λ w. w.pen.cell) (λ w. w.base) c.serve_flows-served.result.controllers.items c.wrap_all-flows.result.controllers.items _ c.serve_flows-served.ensures.controllers c.wrap_all-flows.ensures.stat
+
+drive-bases : (g : _) (c : After-serve_flows-served g) → map (λ w. w.base) c.serve_flows-served.result.drivers.items ≡ map (λ p. p.drive.last) c.args.pens.items
+drive-bases g c = bases-of (λ f. f.key) (λ w. w.flow) (λ w. w.pen.cell) (λ w. w.base) c.serve_flows-served.result.drivers.items c.wrap_all-flows.result.drivers.items _ c.serve_flows-served.ensures.drivers c.wrap_all-flows.ensures.drive_base
+
+stat-bases : (g : _) (c : After-serve_flows-served g) → map (λ w. w.base) c.serve_flows-served.result.controllers.items ≡ map (λ p. p.stat.last) c.args.pens.items
+stat-bases g c = bases-of (λ f. f.key) (λ w. w.flow) (λ w. w.pen.cell) (λ w. w.base) c.serve_flows-served.result.controllers.items c.wrap_all-flows.result.controllers.items _ c.serve_flows-served.ensures.controllers c.wrap_all-flows.ensures.stat_base
+
 pub returns-clause-pens : goal.returns-clause-pens
 returns-clause-pens g c =
-    let served = c.serve_flows-served in
-    let given = c.wrap_all-flows.result in
-    let cells = c.args.cells.now in
+    let back = (goal.at.returns-clause-pens g c).After-serve_flows-served in
+    let served = c.serve_flows-served.result in
     let pens = c.unwrap_all-back.result.pens.items in
     record {
-      stat = marks-by (λ p. p.stat) (λ k. k.cell) (λ w. w.pen) pens served.result.controllers.items (map (λ x. x.stat) cells) c.unwrap_all-back.ensures.stat
-          (marks-of (λ f. f.key) (λ w. w.flow) (λ w. w.pen.cell) served.result.controllers.items given.controllers.items served.ensures.controllers (map (λ x. x.stat) cells) c.wrap_all-flows.ensures.stat);
-      drive = marks-by (λ p. p.drive) (λ k. k.cell) (λ w. w.pen) pens served.result.drivers.items (map (λ x. x.drive) cells) c.unwrap_all-back.ensures.drive
-          (marks-of (λ f. f.key) (λ w. w.flow) (λ w. w.pen.cell) served.result.drivers.items given.drivers.items served.ensures.drivers (map (λ x. x.drive) cells) c.wrap_all-flows.ensures.drive);
+      stat = marks-by (λ p. p.stat) (λ k. k.cell) (λ w. w.pen) pens served.controllers.items _ c.unwrap_all-back.ensures.stat (stat-cells g back);
+      drive = marks-by (λ p. p.drive) (λ k. k.cell) (λ w. w.pen) pens served.drivers.items _ c.unwrap_all-back.ensures.drive (drive-cells g back);
     }
 
-pub returns-in_default-clause-pens : goal.returns-in_default-clause-pens
-returns-in_default-clause-pens g c = pens-of c.args.cells.now c.args.pens.items c.requires.pens
+pub returns-clause-go_on : goal.returns-clause-go_on
+returns-clause-go_on g c =
+    let at = (goal.at.returns-clause-go_on g c).After-serve_flows-served in
+    let served = c.serve_flows-served.result in
+    let back = c.unwrap_all-back in
+    let n = length c.args.cells.now in
+    let drivers = back-drivers g at in
+    let controllers = back-controllers g at in
+    let pens : length back.result.pens.items ≡ n = sym (length-map back.result.pens.items (λ p. p.drive)) ∙ (ap length back.ensures.drive ∙ (length-map served.drivers.items (λ w. w.pen) ∙ drivers)) in
+    continue-all n c.args.pens.items back.result.pens.items _ _ (pens-count c.args.cells.now c.args.pens.items c.requires.pens) pens
+    (λ k b t s low. by-parts TallyGoesOn (λ w. w.base) (λ w. w.flow.tally) (λ w. w.pen.last) served.controllers.items _ _ _ back.ensures.offered (stat-bases g at)
+    (sym (map-map (λ f. f.tally) (λ w. w.flow) served.controllers.items) ∙ ap (map (λ f. f.tally)) (sym back.ensures.controllers))
+    (sym (map-map (λ k. k.last) (λ w. w.pen) served.controllers.items) ∙ (ap (map (λ k. k.last)) (sym back.ensures.stat) ∙ map-map (λ k. k.last) (λ p. p.stat) back.result.pens.items)) k b t s (omega (arith, low, controllers)))
+    (λ k b d s low. by-parts DrivenGoesOn (λ w. w.base) (λ w. w.flow.counts) (λ w. w.pen.last) served.drivers.items _ _ _ back.ensures.driven (drive-bases g at)
+    (sym (map-map (λ f. f.counts) (λ w. w.flow) served.drivers.items) ∙ ap (map (λ f. f.counts)) (sym back.ensures.drivers))
+    (sym (map-map (λ k. k.last) (λ w. w.pen) served.drivers.items) ∙ (ap (map (λ k. k.last)) (sym back.ensures.drive) ∙ map-map (λ k. k.last) (λ p. p.drive) back.result.pens.items)) k b d s (omega (arith, low, drivers)))
 
-pub returns-in_default-clause-driven : goal.returns-in_default-clause-driven
-returns-in_default-clause-driven g c =
-    let long = AllZip-long IsFresh c.args.cells.now c.args.pens.items c.requires.pens in
-    alike driven_shown (λ f. driven f.counts) (driven none) c.args.pens.items c.args.drivers.items (omega (arith, long, c.requires.flows.0))
-    (none-shown c.args.cells.now c.args.pens.items c.requires.pens).1 (λ k d low. ap driven (c.requires.counts k d low))
-
-pub returns-in_default-clause-offered : goal.returns-in_default-clause-offered
-returns-in_default-clause-offered g c =
-    let long = AllZip-long IsFresh c.args.cells.now c.args.pens.items c.requires.pens in
-    alike offered_shown (λ f. offered f.tally) (offered nothing) c.args.pens.items c.args.controllers.items (omega (arith, long, c.requires.flows.1))
-    (none-shown c.args.cells.now c.args.pens.items c.requires.pens).0 (λ k d low. ap offered (c.requires.tallies k d low))
+pub returns-in_default-clause-go_on : goal.returns-in_default-clause-go_on
+returns-in_default-clause-go_on g c =
+    still (λ f. f.tally) (λ f. f.counts) (length c.args.cells.now) c.args.pens.items c.args.controllers.items c.args.drivers.items (pens-count c.args.cells.now c.args.pens.items c.requires.pens) (omega (arith, c.requires.flows.1)) (omega (arith, c.requires.flows.0)) c.requires.tallies c.requires.counts

@@ -1,11 +1,11 @@
+use Rattle.std.specs.Option.{is_some}
 use Rattle.std.proofs.Common.{rules, ◌≡◌, ◌∙◌, ◌*◌, ◌<◌, [], ◌∷◌, length, map, get_or, ap, sym, subst, arith}
 use Rattle.std.proofs.lemmas.List.{length-map, map-append}
-use Rattle.controller.specs.Tallying.{nothing}
-use Rattle.flows.specs.Counting.{none}
+use Rattle.counters.specs.Kinds.{none_taken, nothing}
 use Rattle.limits.specs.declared.profile.TheConstants.{PORTS}
 use Rattle.std.specs.Vec.Iter.{into_iter_items, into_iter_len}
 use Rattle.forwarder.specs.Rings.{AreEnds}
-use Rattle.forwarder.specs.Plans.{AreSides, plan}
+use Rattle.forwarder.specs.Plans.{AreSides, plan_with}
 use Rattle.forwarder.specs.declared.flow_rings.FlowRings.{FlowRings}
 use Rattle.forwarder.proofs.Plans.{all-last, any-default, drop-first, drop-within, places-more}
 use Rattle.forwarder.proofs.Walking.{Grew, makes-on}
@@ -58,14 +58,14 @@ loop-own-preserved g c =
       pool = made.pool;
       share = omega (arith, made.share, was.share);
       enough = omega (arith, made.share, was.enough);
-      counts = all-last (λ f. f.counts ≡ none) drivers c.push_reserved.new.self.items side.driver c.push_reserved.ensures.items was.counts c.make_side-side.ensures.counts;
+      counts = all-last (λ f. f.counts ≡ none_taken) drivers c.push_reserved.new.self.items side.driver c.push_reserved.ensures.items was.counts c.make_side-side.ensures.counts;
       tallies = all-last (λ f. f.tally ≡ nothing) controllers c.push_reserved-in-loop-own.new.self.items side.controller c.push_reserved-in-loop-own.ensures.items was.tallies c.make_side-side.ensures.tally;
-      sides = (λ k l d s low. places-more (λ i a b. (e : FlowRings) → AreSides (plan config c.args.script.now i) pool (get_or c.args.rings.now i e) a b)
+      sides = (λ k l d s low. places-more (λ i a b. (e : FlowRings) → AreSides (plan_with (is_some c.args.stop) config c.args.script.now i) pool (get_or c.args.rings.now i e) a b)
           (map (λ f. f.key) drivers) (map (λ f. f.key) c.push_reserved.new.self.items) side.driver.key
           (map (λ f. f.key) controllers) (map (λ f. f.key) c.push_reserved-in-loop-own.new.self.items) side.controller.key n
           (search (rules, length-map)) (search (rules, length-map))
           (ap (map (λ f. f.key)) c.push_reserved.ensures.items ∙ map-append (λ f. f.key) drivers (side.driver ∷ []))
           (ap (map (λ f. f.key)) c.push_reserved-in-loop-own.ensures.items ∙ map-append (λ f. f.key) controllers (side.controller ∷ []))
-          (λ e. subst (λ l. AreSides (plan config c.args.script.now n) pool l side.driver.key side.controller.key) (sym (at e)) c.make_side-side.ensures.sides)
+          (λ e. subst (λ l. AreSides (plan_with (is_some c.args.stop) config c.args.script.now n) pool l side.driver.key side.controller.key) (sym (at e)) c.make_side-side.ensures.sides)
           (λ i a b less e. was.sides i e a b less) k d s low l);
     }

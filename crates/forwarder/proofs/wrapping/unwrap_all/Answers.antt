@@ -1,10 +1,10 @@
-use Rattle.std.proofs.Common.{rules, ◌≡◌, ◌∙◌, [], ◌∷◌, ◌++◌, ap, map}
+use Rattle.std.proofs.Common.{rules, ◌≡◌, ◌∙◌, [], ◌∷◌, ◌++◌, All, ap, map, subst, sym}
 use Rattle.std.specs.Vec.Iter.{into_iter_items}
+use Rattle.std.proofs.lemmas.List.Elements.{All-cons}
 use denote.Param.Send.{sendable}
 use Rattle.flows.proofs.Sent.{controller_flow, driver_flow}
-use Rattle.flows.specs.Counting.{driven, offered}
-use Rattle.forwarder.specs.LiveStatistics.{driven_shown, offered_shown}
-use Rattle.forwarder.proofs.Moving.{moved, moved-as, same-more}
+use Rattle.forwarder.specs.LiveStatistics.{DrivenGoesOn, TallyGoesOn}
+use Rattle.forwarder.proofs.Moving.{moved, moved-as}
 use Rattle.forwarder.proofs.wrapping.unwrap_all.Goals as goal
 
 pub into_parts-driver-requires-send-F : goal.into_parts-driver-requires-send-F
@@ -43,8 +43,8 @@ loop-driver-preserved c =
           (ap (map (λ w. w.pen)) first) c.push_reserved-in-loop-driver-2.ensures.items own.ensures.pen;
       stat = moved-as (λ p. p.stat) room.pens.items pens (record { stat = its.result.1; drive = own.result.1 }) (map (λ w. w.pen) others) (map (λ w. w.pen) others') (map (λ w. w.pen) c.args.controllers.items) controller.pen was.stat
           (ap (map (λ w. w.pen)) first') c.push_reserved-in-loop-driver-2.ensures.items its.ensures.pen;
-      driven = same-more driven_shown (λ f. driven f.counts) room.pens.items pens (record { stat = its.result.1; drive = own.result.1 }) room.drivers.items drivers own.result.0 was.driven
-          c.push_reserved-in-loop-driver-2.ensures.items c.push_reserved.ensures.items own.ensures.shown;
-      offered = same-more offered_shown (λ f. offered f.tally) room.pens.items pens (record { stat = its.result.1; drive = own.result.1 }) room.controllers.items controllers its.result.0 was.offered
-          c.push_reserved-in-loop-driver-2.ensures.items c.push_reserved-in-loop-driver.ensures.items its.ensures.shown;
+      driven = λ all. was.driven (subst (All (λ w. DrivenGoesOn w.base w.flow.counts w.pen.last)) (sym first) (All-cons (λ w. DrivenGoesOn w.base w.flow.counts w.pen.last) driver rest'
+          (subst (λ k. DrivenGoesOn driver.base driver.flow.counts k.last) own.ensures.pen (subst (λ f. DrivenGoesOn driver.base f.counts own.result.1.last) own.ensures.flow own.ensures.shown)) all));
+      offered = λ all. was.offered (subst (All (λ w. TallyGoesOn w.base w.flow.tally w.pen.last)) (sym first') (All-cons (λ w. TallyGoesOn w.base w.flow.tally w.pen.last) controller others'
+          (subst (λ k. TallyGoesOn controller.base controller.flow.tally k.last) its.ensures.pen (subst (λ f. TallyGoesOn controller.base f.tally its.result.1.last) its.ensures.flow its.ensures.shown)) all));
     }

@@ -3,23 +3,22 @@ use Rattle.std.specs.Vec.Iter.{into_iter_items}
 use Rattle.std.proofs.lemmas.List.{drop_more}
 use Rattle.std.proofs.lemmas.List.Elements.{All-head, All-rest}
 use denote.Param.Send.{sendable}
-use Rattle.controller.specs.Tallying.{nothing}
-use Rattle.counters.specs.Paired.{ArePaired, IsFresh}
+use Rattle.counters.specs.Kinds.{none_taken, nothing}
+use Rattle.counters.specs.Paired.{ArePensOf}
 use Rattle.flows.proofs.Sent.{controller_flow, driver_flow}
-use Rattle.flows.specs.Counting.{driven, none, offered}
-use Rattle.forwarder.proofs.Moving.{moved-as, zip-first}
+use Rattle.forwarder.proofs.Moving.{moved-as, pens-rest}
 use Rattle.forwarder.proofs.wrapping.wrap_all.Goals as goal
 use Rattle.forwarder.proofs.wrapping.wrap_all.Goals.{After-index-cells-number}
 
 pub new-requires-send-F : goal.new-requires-send-F
-new-requires-send-F c κs = search (sendable, driver_flow)
+new-requires-send-F g c κs = search (sendable, driver_flow)
 
 pub new-requires-in-loop-driver-send-F : goal.new-requires-in-loop-driver-send-F
-new-requires-in-loop-driver-send-F c κs = search (sendable, controller_flow)
+new-requires-in-loop-driver-send-F g c κs = search (sendable, controller_flow)
 
 -- the cell of this number is the first of those that are left
-cell-first : (c : After-index-cells-number) → drop c.loop-driver.number c.args.cells.now ≡ c.index-cells-number.result ∷ drop (c.loop-driver.number + 1) c.args.cells.now
-cell-first c =
+cell-first : (g : _) (c : After-index-cells-number g) → drop c.loop-driver.number c.args.cells.now ≡ c.index-cells-number.result ∷ drop (c.loop-driver.number + 1) c.args.cells.now
+cell-first g c =
     let n = c.loop-driver.number in
     let cells = c.args.cells.now in
     let cell = c.index-cells-number.result in
@@ -28,38 +27,38 @@ cell-first c =
     drop_more cells n cell low ∙ ap (λ x. x ∷ drop (n + 1) cells) here
 
 -- its pens are the first of those that are left, and the others are those of the other cells
-pens-first : (c : After-index-cells-number)
-    → IsFresh c.index-cells-number.result c.in-Some-next-2.own × ArePaired (drop (c.loop-driver.number + 1) c.args.cells.now) (into_iter_items c.next-in-loop-driver-2.new.self)
-pens-first c =
+pens-first : (g : _) (c : After-index-cells-number g)
+    → (c.in-Some-next-2.own.stat.cell ≡ c.index-cells-number.result.stat) × (c.in-Some-next-2.own.drive.cell ≡ c.index-cells-number.result.drive) × ArePensOf (drop (c.loop-driver.number + 1) c.args.cells.now) (into_iter_items c.next-in-loop-driver-2.new.self)
+pens-first g c =
     let n = c.loop-driver.number in
     let cells = c.args.cells.now in
     let pens = into_iter_items c.loop-driver.pens in
     let pens' = into_iter_items c.next-in-loop-driver-2.new.self in
     let pen : pens ≡ c.in-Some-next-2.own ∷ pens' = search rules in
-    zip-first IsFresh (drop n cells) (drop (n + 1) cells) c.index-cells-number.result pens pens' c.in-Some-next-2.own (cell-first c) pen c.loop-driver.invariant.pens
+    pens-rest c.index-cells-number.result (drop n cells) (drop (n + 1) cells) c.in-Some-next-2.own pens pens' (cell-first g c) pen c.loop-driver.invariant.pens
 
 pub new-requires-after_bounds : goal.new-requires-after_bounds
-new-requires-after_bounds c κs =
-    let fresh = (pens-first (goal.at.new-requires-after_bounds c).After-index-cells-number).0 in
-    let counts = All-head (λ f. f.counts ≡ none) c.in-Some.driver (into_iter_items c.next.new.self) (subst (All (λ f. f.counts ≡ none)) c.in-Some.ensures.steps.0 c.loop-driver.invariant.counts) in
-    (omega arith, (omega arith, (omega arith, (ap (λ k. k.cell) fresh.drive, ap (λ k. k.last.taken ∷ k.last.posted ∷ k.last.tx_dropped ∷ []) fresh.drive ∙ sym (ap driven counts)))))
+new-requires-after_bounds g c κs lives =
+    let own = pens-first g (goal.at.new-requires-after_bounds g c).After-index-cells-number in
+    let counts = All-head (λ f. f.counts ≡ none_taken) c.in-Some.driver (into_iter_items c.next.new.self) (subst (All (λ f. f.counts ≡ none_taken)) c.in-Some.ensures.steps.0 c.loop-driver.invariant.counts) in
+    (omega arith, (omega arith, (omega arith, (own.1, counts))))
 
 pub new-requires-in-loop-driver-after_bounds : goal.new-requires-in-loop-driver-after_bounds
-new-requires-in-loop-driver-after_bounds c κs =
-    let fresh = (pens-first (goal.at.new-requires-in-loop-driver-after_bounds c).After-index-cells-number).0 in
+new-requires-in-loop-driver-after_bounds g c κs lives =
+    let own = pens-first g (goal.at.new-requires-in-loop-driver-after_bounds g c).After-index-cells-number in
     let other : into_iter_items c.loop-driver.controllers ≡ c.in-Some-next.controller ∷ into_iter_items c.next-in-loop-driver.new.self = search rules in
     let tally = All-head (λ f. f.tally ≡ nothing) c.in-Some-next.controller (into_iter_items c.next-in-loop-driver.new.self) (subst (All (λ f. f.tally ≡ nothing)) other c.loop-driver.invariant.tallies) in
-    (omega arith, (omega arith, (omega arith, (ap (λ k. k.cell) fresh.stat, ap (λ k. k.last.offered ∷ k.last.stored ∷ k.last.dropped ∷ k.last.oversize ∷ []) fresh.stat ∙ sym (ap offered tally)))))
+    (omega arith, (omega arith, (omega arith, (own.0, tally))))
 
 pub loop-driver-preserved : goal.loop-driver-preserved
-loop-driver-preserved c =
+loop-driver-preserved g c =
     let was = c.loop-driver.invariant in
     let n = c.loop-driver.number in
     let cells = c.args.cells.now in
     let cell = c.index-cells-number.result in
-    let next = (goal.at.loop-driver-preserved c).After-index-cells-number in
-    let at = cell-first next in
-    let paired = pens-first next in
+    let next = (goal.at.loop-driver-preserved g c).After-index-cells-number in
+    let at = cell-first g next in
+    let paired = pens-first g next in
     let rest = into_iter_items c.loop-driver.driver-iterator in
     let rest' = into_iter_items c.next.new.self in
     let others = into_iter_items c.loop-driver.controllers in
@@ -72,6 +71,9 @@ loop-driver-preserved c =
     let shown' = c.push_reserved-in-loop-driver.new.self.items in
     let made = c.new in
     let also = c.new-in-loop-driver in
+    let pens = into_iter_items c.loop-driver.pens in
+    let pens' = into_iter_items c.next-in-loop-driver-2.new.self in
+    let pen : pens ≡ c.in-Some-next-2.own ∷ pens' = search rules in
     record {
       count = search rules;
       both = search rules;
@@ -79,13 +81,17 @@ loop-driver-preserved c =
       watched = search rules;
       shown = search rules;
       room = search rules;
-      pens = paired.1;
-      counts = All-rest (λ f. f.counts ≡ none) c.in-Some.driver rest' rest first was.counts;
+      pens = paired.2;
+      counts = All-rest (λ f. f.counts ≡ none_taken) c.in-Some.driver rest' rest first was.counts;
       tallies = All-rest (λ f. f.tally ≡ nothing) c.in-Some-next.controller others' others other was.tallies;
       drivers = moved-as (λ w. w.flow) watched watched' made.result rest rest' c.args.drivers.items c.in-Some.driver was.drivers first c.push_reserved.ensures.items made.ensures.flow;
       controllers = moved-as (λ w. w.flow) shown shown' also.result others others' c.args.controllers.items c.in-Some-next.controller was.controllers other c.push_reserved-in-loop-driver.ensures.items also.ensures.flow;
       drive = moved-as (λ w. w.pen.cell) watched watched' made.result (map (λ c. c.drive) (drop n cells)) (map (λ c. c.drive) (drop (n + 1) cells)) (map (λ c. c.drive) cells) cell.drive was.drive
-          (ap (map (λ c. c.drive)) at) c.push_reserved.ensures.items (ap (λ p. p.cell) made.ensures.pen ∙ ap (λ k. k.cell) paired.0.drive);
+          (ap (map (λ c. c.drive)) at) c.push_reserved.ensures.items (ap (λ p. p.cell) made.ensures.pen ∙ paired.1);
       stat = moved-as (λ w. w.pen.cell) shown shown' also.result (map (λ c. c.stat) (drop n cells)) (map (λ c. c.stat) (drop (n + 1) cells)) (map (λ c. c.stat) cells) cell.stat was.stat
-          (ap (map (λ c. c.stat)) at) c.push_reserved-in-loop-driver.ensures.items (ap (λ p. p.cell) also.ensures.pen ∙ ap (λ k. k.cell) paired.0.stat);
+          (ap (map (λ c. c.stat)) at) c.push_reserved-in-loop-driver.ensures.items (ap (λ p. p.cell) also.ensures.pen ∙ paired.0);
+      drive_base = moved-as (λ w. w.base) watched watched' made.result (map (λ p. p.drive.last) pens) (map (λ p. p.drive.last) pens') (map (λ p. p.drive.last) c.args.pens.items) c.in-Some-next-2.own.drive.last was.drive_base
+          (ap (map (λ p. p.drive.last)) pen) c.push_reserved.ensures.items made.ensures.base;
+      stat_base = moved-as (λ w. w.base) shown shown' also.result (map (λ p. p.stat.last) pens) (map (λ p. p.stat.last) pens') (map (λ p. p.stat.last) c.args.pens.items) c.in-Some-next-2.own.stat.last was.stat_base
+          (ap (map (λ p. p.stat.last)) pen) c.push_reserved-in-loop-driver.ensures.items also.ensures.base;
     }

@@ -4,7 +4,7 @@ ghost use Rattle.counters.specs.Snapshots.{NoneFalls};
 
 use crate::tests::wanted::holds;
 use counters::{
-    ByteCell, Bytes, CounterError, Driven, FlowCells, Offered, Snapshot, SnapshotCell, SnapshotPass,
+    ByteCell, Bytes, CounterError, Driven, FlowCells, Snapshot, SnapshotCell, SnapshotPass, Tally,
 };
 use std::alloc::Global;
 use std::fmt::Debug;
@@ -35,13 +35,15 @@ fn what_is_written_is_read<R: Abort + Wait, T: Snapshot<N> + PartialEq + Debug, 
 {
     let (cell, mut pen, mut told_before) = SnapshotCell::<T, N>::new(alloc).expect(rt, "a cell");
     shows(rt, &cell, &mut told_before, T::opening());
+    assert_eq!(rt; cell.last(rt, &mut pen), T::opening());
     cell.write(rt, &mut pen, numbers);
+    assert_eq!(rt; cell.last(rt, &mut pen), numbers);
     let mut told_after = pen.pass();
     shows(rt, &cell, &mut told_after, numbers);
     shows(rt, &cell, &mut told_before, numbers);
 }
 
-const OFFERED: Offered = Offered {
+const OFFERED: Tally = Tally {
     offered: 8,
     stored: 7,
     dropped: 1,
@@ -61,7 +63,7 @@ const BYTES: Bytes = Bytes {
 
 #[test]
 fn what_was_offered_is_read(rt: HostRuntime) {
-    what_is_written_is_read::<HostRuntime, Offered, 4>(&rt, rt.alloc(), OFFERED);
+    what_is_written_is_read::<HostRuntime, Tally, 4>(&rt, rt.alloc(), OFFERED);
 }
 
 #[test]
@@ -79,7 +81,7 @@ fn can_be(frames: u64, bytes: u64) -> bool {
 }
 
 fn adds_up(offered: u64, stored: u64, dropped: u64, oversize: u64) -> bool {
-    Offered {
+    Tally {
         offered,
         stored,
         dropped,

@@ -1,10 +1,10 @@
 //! One thread writes and two read: no number falls, and each read adds up.
 ghost use Rattle.std.specs.Prelude.{◌≡◌, ◌*◌, ◌≤◌};
-ghost use Rattle.counters.specs.Kinds.{none_offered};
+ghost use Rattle.counters.specs.Kinds.{nothing};
 
 use crate::tests::counting::rows::shows;
 use crate::tests::wanted::holds;
-use counters::{Offered, Snapshot, StatCell, StatPass, StatPen};
+use counters::{Snapshot, StatCell, StatPass, StatPen, Tally};
 use std::sync::Wait;
 use std::thread;
 use std::thread::Threads;
@@ -15,11 +15,11 @@ const WRITES: u64 = 100_000;
 const _: () = prove!(WRITES == 100_000);
 
 /// The numbers after `writes` writes.
-fn row(writes: u64) -> Offered
+fn row(writes: u64) -> Tally
     requires { writes ≤ WRITES }
     ensures { result ≡ record { offered = 6 * writes; stored = 3 * writes; dropped = 2 * writes; oversize = writes } }
 {
-    Offered {
+    Tally {
         offered: 6 * writes,
         stored: 3 * writes,
         dropped: 2 * writes,
@@ -29,7 +29,7 @@ fn row(writes: u64) -> Offered
 
 fn write_all<R: Wait>(rt: &R, cell: &StatCell, mut pen: StatPen) -> StatPen
     requires own { pen.cell ≡ cell.now }
-    requires opening { pen.last ≡ none_offered }
+    requires opening { pen.last ≡ nothing }
     ensures own { result.cell ≡ cell.now }
 {
     for writes in 0..WRITES {

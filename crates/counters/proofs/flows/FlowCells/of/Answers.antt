@@ -1,6 +1,6 @@
 use Rattle.std.proofs.Common.{ℕ, ◌+◌, ap, ◌∙◌}
 use Rattle.counters.specs.Paired.{IsFresh}
-use Rattle.counters.proofs.Pairs.{zip_push}
+use Rattle.counters.proofs.Pairs.{pens_of, zip_push}
 use Rattle.counters.proofs.flows.FlowCells.of.Goals as goal
 
 pub loop-preserved : goal.loop-preserved
@@ -16,3 +16,6 @@ loop-preserved c =
       room = cells.capacity ∙ was.room;
       pen_room = pens.capacity ∙ was.pen_room;
     }
+
+pub returns-clause-own : goal.returns-clause-own
+returns-clause-own c = pens_of _ _ c.loop.invariant.paired

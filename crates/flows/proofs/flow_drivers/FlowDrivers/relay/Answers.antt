@@ -2,8 +2,8 @@ use Rattle.std.proofs.Common.{rules, ◌≡◌, ◌-◌, [], List, length, map, 
 use Rattle.buffer_pool.specs.Buffer.{Buffer}
 use Rattle.buffer_pool.specs.Packed.{bytes_of}
 use Rattle.forwarding.specs.Driving.{driving}
-use Rattle.flows.specs.declared.counts.Counts.{Counts}
-use Rattle.flows.specs.Counting.{counted}
+use Rattle.counters.specs.declared.driven.Driven.{Driven}
+use Rattle.counters.specs.Kinds.{counted}
 use Rattle.flows.specs.Driven.{Relayed, driving_of}
 use Rattle.flows.proofs.FlowDrivers.{drove-all, held-all, equipped-by}
 use Rattle.flows.proofs.Relays.{relays-on, relays-dropping, held-counted, batch-drained}
@@ -19,7 +19,7 @@ returns-in-Err-clause-relayed g c =
     let k = c.args.flow_spec.now in let old = driving_of c.args.self.now in let d = c.drive.new in let new = driving d.rx d.tx d.stash d.packets.items in
     let more = length new.packets - length old.packets in
     let is : c.counted.result ≡ counted c.args.counts.now more 0 0 = search rules in
-    subst (λ (x : Counts). Relayed k.retries new.rx.end new.tx.end x (map bytes_of new.packets)) (sym is)
+    subst (λ (x : Driven). Relayed k.retries new.rx.end new.tx.end x (map bytes_of new.packets)) (sym is)
     (relays-on k.retries old new c.args.counts.now more 0 c.requires.relayed c.drive.ensures.moved (held-counted old new c.in-Err.ensures.refused))
 
 pub returns-then-flow_spec-clause-equipped : goal.returns-then-flow_spec-clause-equipped
@@ -30,7 +30,7 @@ returns-then-flow_spec-clause-equipped g c =
 pub returns-then-flow_spec-clause-relayed : goal.returns-then-flow_spec-clause-relayed
 returns-then-flow_spec-clause-relayed g c =
     let k = c.args.flow_spec.now in let old = driving_of c.args.self.now in let d = c.drive.new in let new = driving d.rx d.tx d.stash d.packets.items in let t = c.in-Ok.turned in
-    subst (λ (x : Counts). Relayed k.retries new.rx.end new.tx.end x (map bytes_of new.packets)) (sym c.counted-then-flow_spec.ensures.value)
+    subst (λ (x : Driven). Relayed k.retries new.rx.end new.tx.end x (map bytes_of new.packets)) (sym c.counted-then-flow_spec.ensures.value)
     (relays-on k.retries old new c.args.counts.now t.taken t.posted c.requires.relayed c.drive.ensures.moved c.in-Ok.ensures.counted)
 
 pub returns-then-flow_spec-clause-drained : goal.returns-then-flow_spec-clause-drained
@@ -50,7 +50,7 @@ returns-clause-relayed g c =
     let is : c.counted-2.result ≡ counted c.args.counts.now t.taken t.posted (length new.packets) = search rules in
     let same = p.ensures.drivers in
     rw (same.0, same.1) (subst (λ (ps : List (List Buffer)). Relayed k.retries new.rx.end new.tx.end c.counted-2.result (map bytes_of ps)) (sym p.ensures.none)
-    (subst (λ (x : Counts). Relayed k.retries new.rx.end new.tx.end x []) (sym is) (relays-dropping k.retries old new c.args.counts.now t.taken t.posted c.requires.relayed c.drive.ensures.moved c.in-Ok.ensures.counted never)))
+    (subst (λ (x : Driven). Relayed k.retries new.rx.end new.tx.end x []) (sym is) (relays-dropping k.retries old new c.args.counts.now t.taken t.posted c.requires.relayed c.drive.ensures.moved c.in-Ok.ensures.counted never)))
 
 pub returns-clause-drained : goal.returns-clause-drained
 returns-clause-drained g c =
