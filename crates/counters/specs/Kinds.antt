@@ -46,6 +46,10 @@ driven_sum a b = record { taken = a.taken + b.taken; posted = a.posted + b.poste
 abbrev pub most_exact : ℕ
 most_exact = 18446744073709551583
 
--- More frames, if there is room for them. If not, no count changes.
+-- The counts after one more turn.
+abbrev pub after_turn : Driven → ℕ → ℕ → ℕ → Driven
+after_turn d taken posted dropped = record { taken = d.taken + taken; posted = d.posted + posted; tx_dropped = d.tx_dropped + dropped }
+
+-- The same, if there is room. If not, no count changes.
 abbrev pub counted : Driven → ℕ → ℕ → ℕ → Driven
-counted d taken posted dropped = if nat_lt most_exact d.taken then d else record { taken = d.taken + taken; posted = d.posted + posted; tx_dropped = d.tx_dropped + dropped }
+counted d taken posted dropped = if nat_lt most_exact d.taken then d else after_turn d taken posted dropped

@@ -9,6 +9,9 @@ use crate::totals::Totals;
 use crossbeam_utils::atomic::seq_cell::Words;
 use limits::MOST_BATCH;
 
+/// How many numbers [`Driven`] has.
+pub const DRIVEN_NUMBERS: usize = 3;
+
 /// The frames of a driver: `posted + tx_dropped` is at most `taken`.
 ///
 /// The counts are exact until one of them might exceed `u64::MAX`; from then on all of them stay unchanged.
@@ -47,16 +50,16 @@ impl Driven {
     }
 }
 
-impl Words<3> for Driven {
+impl Words<DRIVEN_NUMBERS> for Driven {
     ghost use Rattle.counters.specs.Kinds.{driven_words};
 
     ghost words = { driven_words };
 
-    fn to_words(self) -> [u64; 3] {
+    fn to_words(self) -> [u64; DRIVEN_NUMBERS] {
         [self.taken, self.posted, self.tx_dropped]
     }
 
-    fn from_words(bits: &[u64; 3]) -> Self {
+    fn from_words(bits: &[u64; DRIVEN_NUMBERS]) -> Self {
         Driven {
             taken: bits[0],
             posted: bits[1],
@@ -65,7 +68,7 @@ impl Words<3> for Driven {
     }
 }
 
-impl Snapshot<3> for Driven {
+impl Snapshot<DRIVEN_NUMBERS> for Driven {
     ghost use Rattle.counters.specs.Kinds.{WasTaken, none_taken};
 
     ghost lawful = { WasTaken };
@@ -81,7 +84,7 @@ impl Snapshot<3> for Driven {
     }
 }
 
-impl Totals<3> for Driven {
+impl Totals<DRIVEN_NUMBERS> for Driven {
     ghost use Rattle.std.proofs.Common.{rules};
     ghost use Rattle.counters.specs.Kinds.{driven_sum};
 

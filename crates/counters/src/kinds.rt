@@ -2,23 +2,23 @@
 
 use crate::bytes::Bytes;
 use crate::cell::{SnapshotCell, SnapshotPass, SnapshotPen};
-use crate::driven::Driven;
-use crate::tally::Tally;
+use crate::driven::{DRIVEN_NUMBERS, Driven};
+use crate::tally::{TALLY_NUMBERS, Tally};
 
 /// The cell of a controller: the frames that it was offered.
-pub type StatCell = SnapshotCell<Tally, 4>;
+pub type StatCell = SnapshotCell<Tally, TALLY_NUMBERS>;
 
 /// The pen of a [`StatCell`].
-pub type StatPen = SnapshotPen<Tally, 4>;
+pub type StatPen = SnapshotPen<Tally, TALLY_NUMBERS>;
 
 /// A pass of a [`StatCell`].
 pub type StatPass = SnapshotPass<Tally>;
 
 /// The cell of a driver: its counts of the frames that it took.
-pub type DriveCell = SnapshotCell<Driven, 3>;
+pub type DriveCell = SnapshotCell<Driven, DRIVEN_NUMBERS>;
 
 /// The pen of a [`DriveCell`].
-pub type DrivePen = SnapshotPen<Driven, 3>;
+pub type DrivePen = SnapshotPen<Driven, DRIVEN_NUMBERS>;
 
 /// A pass of a [`DriveCell`].
 pub type DrivePass = SnapshotPass<Driven>;

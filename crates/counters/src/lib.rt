@@ -32,7 +32,7 @@ mod totals;
 
 pub use bytes::Bytes;
 pub use cell::{SnapshotCell, SnapshotPass, SnapshotPen};
-pub use driven::Driven;
+pub use driven::{DRIVEN_NUMBERS, Driven};
 pub use flow_counters::{Counter, FLOW_COUNTERS, FlowCounters};
 pub use flows::{FlowCells, FlowPens};
 pub use kinds::{
@@ -41,5 +41,5 @@ pub use kinds::{
 pub use numbers::{CellHolder, Numbers};
 pub use refusals::CounterError;
 pub use snapshot::Snapshot;
-pub use tally::Tally;
+pub use tally::{TALLY_NUMBERS, Tally};
 pub use totals::Totals;

@@ -4,6 +4,9 @@ use crate::snapshot::Snapshot;
 use crate::totals::Totals;
 use crossbeam_utils::atomic::seq_cell::Words;
 
+/// How many numbers [`Tally`] has.
+pub const TALLY_NUMBERS: usize = 4;
+
 /// The outcomes of the frames offered to a receive queue: `offered` is the sum of the other three.
 #[derive(Clone, Copy, Debug, PartialEq, Eq, Default)]
 pub struct Tally {
@@ -17,16 +20,16 @@ pub struct Tally {
     pub oversize: u64,
 }
 
-impl Words<4> for Tally {
+impl Words<TALLY_NUMBERS> for Tally {
     ghost use Rattle.counters.specs.Kinds.{tally_words};
 
     ghost words = { tally_words };
 
-    fn to_words(self) -> [u64; 4] {
+    fn to_words(self) -> [u64; TALLY_NUMBERS] {
         [self.offered, self.stored, self.dropped, self.oversize]
     }
 
-    fn from_words(bits: &[u64; 4]) -> Self {
+    fn from_words(bits: &[u64; TALLY_NUMBERS]) -> Self {
         Tally {
             offered: bits[0],
             stored: bits[1],
@@ -36,7 +39,7 @@ impl Words<4> for Tally {
     }
 }
 
-impl Snapshot<4> for Tally {
+impl Snapshot<TALLY_NUMBERS> for Tally {
     ghost use Rattle.counters.specs.Kinds.{AddsUp, nothing};
 
     ghost lawful = { AddsUp };
@@ -54,7 +57,7 @@ impl Snapshot<4> for Tally {
     }
 }
 
-impl Totals<4> for Tally {
+impl Totals<TALLY_NUMBERS> for Tally {
     ghost use Rattle.std.proofs.Common.{rules};
     ghost use Rattle.counters.specs.Kinds.{tally_sum};
 

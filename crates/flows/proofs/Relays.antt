@@ -11,7 +11,7 @@ use Rattle.driver.specs.transmit.Transmitter.{Transmitter}
 use Rattle.forwarding.specs.Touching.{touch}
 use Rattle.forwarding.specs.Driving.{Driving, Moved, Counted, Drove, HeldBack, OnlyReceived}
 use Rattle.counters.specs.declared.driven.Driven.{Driven}
-use Rattle.counters.specs.Kinds.{counted, most_exact}
+use Rattle.counters.specs.Kinds.{after_turn, counted, most_exact}
 use Rattle.flows.specs.Outputs.{Chosen}
 use Rattle.flows.specs.Driven.{AreExact, AreFull, Relayed, taken_frames, posted_frames}
 use Rattle.flows.proofs.Choosing.{chosen-both, chosen-front}
@@ -26,11 +26,11 @@ relayed-lists p p' waits waits' t t' taken posted c et ep order =
     subst (λ (l : List Bytes). Chosen l (map touch t')) front (subst (λ (l : List Bytes). Chosen ((p ++ waits) ++ map touch taken) l) back more)
 
 -- the counts: as long as there is room they grow, and from then on stay
-counted-more : (c : Driven) (a b d : ℕ) → c.taken ≤ most_exact → counted c a b d ≡ record { taken = c.taken + a; posted = c.posted + b; tx_dropped = c.tx_dropped + d }
-counted-more c a b d low = ap (λ (x : Bool). if x then c else record { taken = c.taken + a; posted = c.posted + b; tx_dropped = c.tx_dropped + d }) (le-ltb most_exact c.taken low)
+counted-more : (c : Driven) (a b d : ℕ) → c.taken ≤ most_exact → counted c a b d ≡ after_turn c a b d
+counted-more c a b d low = ap (λ (x : Bool). if x then c else after_turn c a b d) (le-ltb most_exact c.taken low)
 
 counted-full : (c : Driven) (a b d : ℕ) → most_exact < c.taken → counted c a b d ≡ c
-counted-full c a b d high = ap (λ (x : Bool). if x then c else record { taken = c.taken + a; posted = c.posted + b; tx_dropped = c.tx_dropped + d }) (lt-ltb most_exact c.taken high)
+counted-full c a b d high = ap (λ (x : Bool). if x then c else after_turn c a b d) (lt-ltb most_exact c.taken high)
 
 le-or-lt : (n m : ℕ) → (n ≤ m) ⊎ (m < n)
 le-or-lt zero m = inl (omega arith)
@@ -44,7 +44,7 @@ pub record Added (a b d : ℕ) (rx rx' : receive.DriverSide) (tx tx' : transmit.
   pub waits : waiting + a ≡ b + d + waiting'
 
 module _ (rx rx' : receive.DriverSide) (tx tx' : transmit.DriverSide) (c : Driven) (a b d waiting waiting' : ℕ) (added : Added a b d rx rx' tx tx' waiting waiting') where
-  exact-on : c.taken ≤ most_exact → AreExact rx tx c waiting → AreExact rx' tx' (record { taken = c.taken + a; posted = c.posted + b; tx_dropped = c.tx_dropped + d }) waiting'
+  exact-on : c.taken ≤ most_exact → AreExact rx tx c waiting → AreExact rx' tx' (after_turn c a b d) waiting'
   exact-on low e =
       let et = e.taken in let ep = e.posted in let ea = e.all in let t = added.takes in let p = added.posts in let w = added.waits in
       record { taken = omega (arith, et, t); posted = omega (arith, ep, p); all = omega (arith, ea, w) }
@@ -62,7 +62,7 @@ module _ (rx rx' : receive.DriverSide) (tx tx' : transmit.DriverSide) (c : Drive
       → (AreExact rx' tx' (counted c a b d) waiting' ⊎ AreFull rx' (counted c a b d)) × ((counted c a b d).posted + (counted c a b d).tx_dropped ≤ (counted c a b d).taken) × (dropped ≡ true → (counted c a b d).tx_dropped ≡ 0)
   counts-on retries none had few kept = ⊎_elim
       (λ (low : c.taken ≤ most_exact).
-      let grown : Driven = record { taken = c.taken + a; posted = c.posted + b; tx_dropped = c.tx_dropped + d } in
+      let grown : Driven = after_turn c a b d in
       let is = counted-more c a b d low in let e = exact-on low (exactly low had) in (
         subst (λ (x : Driven). AreExact rx' tx' x waiting' ⊎ AreFull rx' x) (sym is) (inl e),
         subst (λ (x : Driven). x.posted + x.tx_dropped ≤ x.taken) (sym is) (let all = e.all in omega (arith, all)),

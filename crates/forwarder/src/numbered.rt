@@ -1,5 +1,5 @@
 //! The numbers of a flow that a cell shows.
-use counters::{Driven, Snapshot, Tally};
+use counters::{DRIVEN_NUMBERS, Driven, Snapshot, TALLY_NUMBERS, Tally};
 use flows::{ControllerFlow, DriverFlow};
 use forwarding::Flow;
 
@@ -23,7 +23,7 @@ pub trait Numbered<T: Snapshot<N>, const N: usize>: Flow {
         ensures { IsTrue result ↔ (snapshot ≡ shown self.now) };
 }
 
-impl<'a> Numbered<Driven, 3> for DriverFlow<'a> {
+impl<'a> Numbered<Driven, DRIVEN_NUMBERS> for DriverFlow<'a> {
     ghost shown = { λ f. f.counts };
 
     fn snapshot(&self) -> Driven {
@@ -35,7 +35,7 @@ impl<'a> Numbered<Driven, 3> for DriverFlow<'a> {
     }
 }
 
-impl<'a> Numbered<Tally, 4> for ControllerFlow<'a> {
+impl<'a> Numbered<Tally, TALLY_NUMBERS> for ControllerFlow<'a> {
     ghost shown = { λ f. f.tally };
 
     fn snapshot(&self) -> Tally {

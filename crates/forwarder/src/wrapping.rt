@@ -5,7 +5,7 @@ ghost use Rattle.counters.specs.Paired.{ArePensOf};
 ghost use Rattle.forwarder.specs.LiveStatistics.{DrivenGoesOn, TallyGoesOn};
 
 use crate::live_flow::LiveFlow;
-use counters::{Driven, FlowCells, FlowPens, Tally};
+use counters::{DRIVEN_NUMBERS, Driven, FlowCells, FlowPens, TALLY_NUMBERS, Tally};
 use flows::{ControllerFlow, DriverFlow};
 use std::alloc::{AllocError, Global};
 use std::sync::Wait;
@@ -13,8 +13,8 @@ use std::sync::Wait;
 /// Both sides of all flows, each with its cell, in the order of the flows.
 #[derive(Drop)]
 pub(crate) struct Wrapped<'a> {
-    pub drivers: Vec<LiveFlow<'a, DriverFlow<'a>, Driven, 3>>,
-    pub controllers: Vec<LiveFlow<'a, ControllerFlow<'a>, Tally, 4>>,
+    pub drivers: Vec<LiveFlow<'a, DriverFlow<'a>, Driven, DRIVEN_NUMBERS>>,
+    pub controllers: Vec<LiveFlow<'a, ControllerFlow<'a>, Tally, TALLY_NUMBERS>>,
 }
 
 /// Both sides of all flows, and the pens that showed their numbers, in the order of the flows.
@@ -105,8 +105,8 @@ pub(crate) fn wrap_all<'a, R: Wait>(
 
 /// Separates both sides of each flow from their cells, in room allocated before.
 pub(crate) fn unwrap_all<'a>(
-    drivers: Vec<LiveFlow<'a, DriverFlow<'a>, Driven, 3>>,
-    controllers: Vec<LiveFlow<'a, ControllerFlow<'a>, Tally, 4>>,
+    drivers: Vec<LiveFlow<'a, DriverFlow<'a>, Driven, DRIVEN_NUMBERS>>,
+    controllers: Vec<LiveFlow<'a, ControllerFlow<'a>, Tally, TALLY_NUMBERS>>,
     mut room: Unwrapped<'a>,
 ) -> Unwrapped<'a>
     requires flows { vec_len controllers ≡ vec_len drivers }

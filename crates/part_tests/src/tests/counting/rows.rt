@@ -4,7 +4,8 @@ ghost use Rattle.counters.specs.Snapshots.{NoneFalls};
 
 use crate::tests::wanted::holds;
 use counters::{
-    ByteCell, Bytes, CounterError, Driven, FlowCells, Snapshot, SnapshotCell, SnapshotPass, Tally,
+    ByteCell, Bytes, CounterError, DRIVEN_NUMBERS, Driven, FlowCells, Snapshot, SnapshotCell,
+    SnapshotPass, TALLY_NUMBERS, Tally,
 };
 use std::alloc::Global;
 use std::fmt::Debug;
@@ -63,12 +64,12 @@ const BYTES: Bytes = Bytes {
 
 #[test]
 fn what_was_offered_is_read(rt: HostRuntime) {
-    what_is_written_is_read::<HostRuntime, Tally, 4>(&rt, rt.alloc(), OFFERED);
+    what_is_written_is_read::<HostRuntime, Tally, TALLY_NUMBERS>(&rt, rt.alloc(), OFFERED);
 }
 
 #[test]
 fn what_was_driven_is_read(rt: HostRuntime) {
-    what_is_written_is_read::<HostRuntime, Driven, 3>(&rt, rt.alloc(), DRIVEN);
+    what_is_written_is_read::<HostRuntime, Driven, DRIVEN_NUMBERS>(&rt, rt.alloc(), DRIVEN);
 }
 
 #[test]
