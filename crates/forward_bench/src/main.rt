@@ -54,7 +54,12 @@ Examples:
 
 /// Whether all frames of a flow were sent.
 fn is_whole(flow: &FlowReport, count: u64) -> bool {
-    let counts = [flow.tally.offered, flow.tally.stored, flow.driven.taken, flow.driven.posted];
+    let counts = [
+        flow.tally.offered,
+        flow.tally.stored,
+        flow.driven.taken,
+        flow.driven.posted,
+    ];
     counts.iter().all(|number| *number == count)
         && flow.wire.len() as u64 == count
         && flow.ended == Ended::Drained

@@ -96,9 +96,7 @@ pub fn forward_in<R: Threads + Wait + Sync, G: Gate + Sync>(
     ensures held { pass.new.hand.held ≡ pass.old.hand.held }
     ensures whole { HoldsWhole pass.old.hand → HoldsWhole pass.new.hand }
 {
-    let (report, _) = forward_with(
-        rt, alloc, script, config, gate, pool, pass, None, None,
-    )?;
+    let (report, _) = forward_with(rt, alloc, script, config, gate, pool, pass, None, None)?;
     Ok(report)
 }
 

@@ -37,7 +37,9 @@ fn all_add_up(flows: &[FlowReport]) -> bool {
 fn is_relayed(flow: &FlowReport, script: &Script, retry: bool) -> bool {
     let gone = flow.driven.posted.saturating_add(flow.driven.tx_dropped);
     if retry {
-        flow.driven.tx_dropped == 0 && gone <= flow.driven.taken && carries(&flow.wire, script, 0, 1)
+        flow.driven.tx_dropped == 0
+            && gone <= flow.driven.taken
+            && carries(&flow.wire, script, 0, 1)
     } else {
         gone == flow.driven.taken
     }
@@ -85,7 +87,8 @@ fn is_cut_by_a_flag<R: Threads + Wait + Sync + Abort>(
     let stop = Some(gate.flag());
     let (report, pens) = forward_with(
         rt, alloc, script, &config, &gate, &pool, &mut pass, None, stop,
-    ).expect(rt, "a report");
+    )
+    .expect(rt, "a report");
     let made = gate.made() == u64::from(turns) && pens.is_empty();
     made && was_cut(&report, script, gate.made(), retry)
 }
@@ -134,17 +137,15 @@ fn none_is_cut_before_the_flag<R: Threads + Wait + Sync + Abort>(
         &mut pass,
         None,
         Some(&stop),
-    ).expect(rt, "a report");
+    )
+    .expect(rt, "a report");
     is_drained(&report, script, 2, FORTY_COUNTS)
 }
 
 #[test]
 fn while_no_flag_is_set_no_flow_is_cut(rt: HostRuntime) {
     let script = script_of(&rt, rt.alloc(), FORTY);
-    holds(
-        &rt,
-        none_is_cut_before_the_flag(&rt, rt.alloc(), &script),
-    );
+    holds(&rt, none_is_cut_before_the_flag(&rt, rt.alloc(), &script));
 }
 
 /// Whether all 40 frames are sent within `turns` turns.

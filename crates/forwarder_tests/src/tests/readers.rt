@@ -45,7 +45,11 @@ impl<'c> Reader<'c> {
             driven,
         };
         let mut good = true;
-        for (now, once) in shown.entries().iter().zip(report.counters().entries().iter()) {
+        for (now, once) in shown
+            .entries()
+            .iter()
+            .zip(report.counters().entries().iter())
+        {
             good &= now.value == once.value.saturating_mul(2);
         }
         good

@@ -100,7 +100,8 @@ fn go_on<R: Threads + Wait + Sync + Abort>(
         pass,
         Some(watch),
         None,
-    ).expect(rt, "a report");
+    )
+    .expect(rt, "a report");
     let again = Some(Watch { cells, pens });
     let (report, _) = forward_with(
         rt, alloc, script, &SHORT, &Open, pool, pass, again, None,
@@ -119,11 +120,20 @@ fn cells_go_on(rt: HostRuntime) {
     let (pool, mut pass) = Pool::new(&rt, rt.alloc(), SHORT.buffers).expect(&rt, "a pool");
     let (cells, mut pens) = FlowCells::of(rt.alloc(), 4).expect(&rt, "cells");
     let mut readers = readers_of(&rt, rt.alloc(), &cells, &mut pens);
-    let watch = Watch { cells: &cells, pens };
+    let watch = Watch {
+        cells: &cells,
+        pens,
+    };
     holds(
         &rt,
         go_on(
-            &rt, rt.alloc(), &script, &pool, &mut pass, &mut readers, watch,
+            &rt,
+            rt.alloc(),
+            &script,
+            &pool,
+            &mut pass,
+            &mut readers,
+            watch,
         ),
     );
 }

@@ -185,10 +185,7 @@ fn tells(page: &str, report: &Report) -> Option<()> {
 
 /// Whether each flow dropped frames at both of its rings.
 fn drops(report: &Report) -> bool {
-    report
-        .flows
-        .iter()
-        .all(|flow| flow.tally.dropped > 0 && flow.driven.tx_dropped > 0)
+    report.flows.iter().all(|flow| flow.tally.dropped > 0 && flow.driven.tx_dropped > 0)
 }
 
 #[test]
