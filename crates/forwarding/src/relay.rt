@@ -1,10 +1,11 @@
 //! Both drivers of a flow, with the packets that wait between them.
-ghost use Rattle.std.specs.Prelude.{◌≡◌, ◌≤◌, ◌&&◌, true, [], All, length, IfErr, IfOk, OnErr, OnOk};
+ghost use Rattle.std.specs.Prelude.{◌≡◌, ◌≤◌, ◌&&◌, true, false, [], All, length, IfErr, IfOk, OnErr, OnOk};
 ghost use Rattle.limits.specs.declared.profile.TheConstants.{MOST_BATCH};
 ghost use Rattle.refusals.specs.declared.errors.DriverError.TheVariants.{NotReclaimed};
-ghost use Rattle.ring_model.specs.shared.Handshakes.{is_live, is_on};
+ghost use Rattle.ring_model.specs.shared.Handshakes.{is_live, is_on, is_open};
 ghost use Rattle.rx_ring.specs.Ends as receive;
 ghost use Rattle.tx_ring.specs.Ends as transmit;
+ghost use Rattle.driver.specs.Handshake.{AskedEnabling};
 ghost use Rattle.driver.specs.receive.Chains.{IsTaken};
 ghost use Rattle.teams.specs.Gates.{MayRefuse};
 ghost use Rattle.teams.specs.declared.gate.Who.TheVariants as who;
@@ -95,7 +96,10 @@ impl Relay {
         requires sends { self.old.tx.end.table ≡ to.now }
         ensures receives { self.new.rx.end.table ≡ from.now }
         ensures sends { self.new.tx.end.table ≡ to.now }
-        ensures told { IfOk result (λ enabled. enabled ≡ true → (is_on (receive.driver_state self.new.rx.end) ≡ true) × (is_on (transmit.driver_state self.new.tx.end) ≡ true)) }
+        ensures told { IfOk result (λ enabled. enabled ≡ (is_on (transmit.driver_state self.new.tx.end) && is_on (receive.driver_state self.new.rx.end))) }
+        ensures tx_asked { is_open (transmit.driver_state self.old.tx.end) ≡ true → AskedEnabling self.old.tx.end self.new.tx.end }
+        ensures rx_asked { OnOk result (is_on (transmit.driver_state self.new.tx.end) ≡ true → is_open (receive.driver_state self.old.rx.end) ≡ true → AskedEnabling self.old.rx.end self.new.rx.end) }
+        ensures rx_waits { OnOk result (is_on (transmit.driver_state self.new.tx.end) ≡ false → self.new.rx ≡ self.old.rx) }
         ensures refusal { IfErr result (λ e. e ≡ NotReclaimed) }
         ensures rest { (self.new.stash ≡ self.old.stash) × (self.new.packets ≡ self.old.packets) }
     {
