@@ -43,6 +43,9 @@
 extern "C" {
 #endif
 
+/* The version of the library. */
+#define POLL82599_VERSION "0.1.0"
+
 /* The limits. */
 enum {
     POLL82599_LEAST_RING = 8,       /* descriptors of a ring: a power of two, at least this .. */

@@ -1,0 +1,479 @@
+"""Receive and transmit rings of the Intel 82599 between threads, over the proved library poll82599.
+
+An emulator's test in ten lines, with the device in the hands of the test:
+
+    from poll82599 import ON, Packets, RxQueue
+    queue, device = RxQueue(64)
+    packets = Packets(128)
+    queue.enable()                          # the driver asks,
+    assert device.control() == ON           # the device answers,
+    assert queue.enable()                   # and the driver sees it
+    queue.batch(packets)                    # posts the first buffers
+    assert device.offer(bytes(60)) == "stored"
+    assert queue.batch(packets) == 1
+    assert packets.copy(0) == bytes(60)
+
+The module loads libpoll82599.so.0 from the folder that the environment variable POLL82599_DIR names, which `./library FOLDER` or
+`./run --install PREFIX` has filled, or else from where the system looks. docs/LIBRARY.md of the repository describes each call.
+Calls release the interpreter lock, so the two ends of a ring can be in two threads. These wrappers are not proved, but tested.
+"""
+import ctypes
+import os
+from ctypes import POINTER, Structure, byref, c_int32, c_int64, c_size_t, c_uint8, c_uint16, c_uint32, c_uint64, c_void_p
+
+OFF, ENABLE_ASKED, ON, DISABLE_ASKED = range(4)
+BUFFER_BYTES, MOST_FRAME = 2048, 15_000
+
+
+class Refused(Exception):
+    """A call refused: `why` names the reason, such as "not on"."""
+
+    def __init__(self, why):
+        super().__init__(why)
+        self.why = why
+
+
+class _Handle(Structure):
+    _fields_ = [("end", c_void_p)]
+
+
+class _Call(Structure):
+    _fields_ = [(name, c_uint32) for name in ("operation", "answer", "len", "eop", "rs", "paylen")]
+
+
+class _Batch(Structure):
+    _fields_ = [("operation", c_uint32), ("answer", c_uint32), ("count", c_size_t)]
+
+
+class _Packet(Structure):
+    _fields_ = [("operation", c_uint32), ("answer", c_uint32), ("packet", c_size_t), ("len", c_size_t), ("at", c_size_t), ("byte", c_uint8)]
+
+
+class _Offered(Structure):
+    _fields_ = [("operation", c_uint32), ("answer", c_uint32)] + [(name, c_uint64) for name in ("offered", "stored", "dropped", "oversize")]
+
+
+class _Descriptor(Structure):
+    _fields_ = [(name, c_uint32) for name in ("number", "len", "eop", "rs", "paylen")]
+
+
+class _Plan(Structure):
+    _fields_ = [(name, c_uint32) for name in ("pairs", "descriptors", "enabled", "by_head", "json")]
+
+
+class _Moved(Structure):
+    _fields_ = [("needed", c_uint64), ("line", c_uint64)]
+
+
+def _loaded():
+    folder = os.environ.get("POLL82599_DIR")
+    library = ctypes.CDLL(os.path.join(folder, "lib", "libpoll82599.so.0") if folder else "libpoll82599.so.0")
+    handle, size = POINTER(_Handle), c_size_t
+    read, write = ctypes.c_char_p, POINTER(c_uint8)
+    prototypes = {
+        "rx_new": (c_int32, c_uint32, c_uint32, handle, handle),
+        "rx_drive": (None, handle, POINTER(_Call), write, size),
+        "rx_serve": (None, handle, POINTER(_Call), read, size),
+        "rx_close": (c_int64, handle, handle),
+        "tx_new": (c_int32, c_uint32, c_uint32, c_uint32, handle, handle),
+        "tx_drive": (None, handle, POINTER(_Call), read, size),
+        "tx_serve": (None, handle, POINTER(_Call), write, size),
+        "tx_close": (c_int64, handle, handle),
+        "packets_new": (c_int32, c_uint32, handle),
+        "packets_put": (c_uint32, handle, read, size),
+        "packets_do": (None, handle, POINTER(_Packet), write, size),
+        "packets_close": (size, handle),
+        "rx_queue_new": (c_int32, c_uint32, size, size, c_uint32, handle, handle),
+        "rx_queue_move": (None, handle, handle, POINTER(_Batch)),
+        "rx_queue_do": (None, handle, POINTER(_Batch)),
+        "rx_device_do": (None, handle, POINTER(_Offered), read, size),
+        "rx_queue_close": (c_int64, handle, handle),
+        "tx_queue_new": (c_int32, c_uint32, c_uint16, c_uint32, handle, handle),
+        "tx_queue_move": (None, handle, handle, POINTER(_Batch)),
+        "tx_queue_do": (None, handle, POINTER(_Batch)),
+        "tx_device_do": (None, handle, POINTER(_Batch), write, size),
+        "tx_queue_close": (c_int64, handle, handle),
+        "decode": (c_uint32, c_uint32, read, size, POINTER(_Descriptor)),
+        "encode": (c_uint32, c_uint32, POINTER(_Descriptor), write, size),
+        "moves": (c_uint32, POINTER(_Plan), read, size, write, size, POINTER(_Moved)),
+        "once": (c_uint32, read, size, write, size),
+    }
+    calls = {}
+    for name, (result, *arguments) in prototypes.items():
+        calls[name] = getattr(library, f"poll82599_{name}")
+        calls[name].restype, calls[name].argtypes = result, arguments
+    return calls
+
+
+_calls = _loaded()
+_made = {1: "the number of descriptors is not a power of two from 8 to 4,096", 2: "memory", 3: "the number of buffers is not 16 to 256",
+         4: "a setting is out of range"}
+
+
+def _done(answer, **refusals):
+    """Whether a call that answers 1 or 0 did something. The other answers are refusals, as in `_2="unfit"`."""
+    if answer in (0, 1):
+        return answer == 1
+    if answer == 0xFFFFFFFF:
+        raise Refused("closed")
+    raise Refused(refusals.get(f"_{answer}", f"answer {answer}"))
+
+
+def _room(size):
+    return (c_uint8 * max(size, 1))()
+
+
+class _Pair:
+    """The handles of both ends of a ring, and how it is closed."""
+
+    def __init__(self, kind, *arguments):
+        self.driver, self.device, self.close = _Handle(), _Handle(), _calls[f"{kind}_close"]
+        refusal = _calls[f"{kind}_new"](*arguments, byref(self.driver), byref(self.device))
+        if refusal:
+            raise Refused(_made[refusal])
+
+    def __del__(self):
+        if hasattr(self, "device"):
+            self.close(byref(self.driver), byref(self.device))
+
+
+def close(driver, device):
+    """Closes the two ends of one ring, and returns how many buffers lay in it. Dropping both ends frees the ring as well."""
+    if driver._pair is not device._pair:
+        raise Refused("these are ends of two rings")
+    in_ring = driver._pair.close(byref(driver._pair.driver), byref(driver._pair.device))
+    if in_ring < 0:
+        raise Refused("closed")
+    return in_ring
+
+
+class _Driver:
+    """The calls that drivers of both directions have. Each returns whether it was done."""
+
+    def __init__(self, pair):
+        self._pair = pair
+
+    def set_tail(self):
+        return _done(self._step(1))
+
+    def ask_enable(self):
+        return _done(self._step(3))
+
+    def state(self):
+        """Loads the control word: OFF, ENABLE_ASKED, ON or DISABLE_ASKED."""
+        return self._step(4)
+
+    def ask_disable(self):
+        return _done(self._step(5))
+
+    def reclaim(self):
+        return _done(self._step(7), _2="not disabled")
+
+    def renew(self):
+        return _done(self._step(8))
+
+    def _left(self):
+        call = self._call(_Call(operation=9))
+        return call.len if _done(call.answer, _2="not disabled") else None
+
+    def _step(self, operation):
+        return self._call(_Call(operation=operation)).answer
+
+
+class RxDriver(_Driver):
+    def post(self):
+        return _done(self._step(0))
+
+    def poll(self):
+        """The next segment, as its bytes and EOP, or None if it is not there yet."""
+        room = _room(BUFFER_BYTES)
+        call = self._call(_Call(operation=2), room)
+        if _done(call.answer, _2="nothing posted", _3="not on"):
+            return bytes(room[: call.len]), bool(call.eop)
+        return None
+
+    def is_quiet(self):
+        return _done(self._step(6))
+
+    def untaken(self):
+        """How many segments were stored and not taken, or None once a buffer was reclaimed."""
+        return self._left()
+
+    def _call(self, call, room=None):
+        room = room or _room(0)
+        _calls["rx_drive"](byref(self._pair.driver), byref(call), room, len(room))
+        return call
+
+
+class RxController:
+    def __init__(self, pair):
+        self._pair = pair
+
+    def answer(self):
+        return _done(self._call(0))
+
+    def store(self, segment, eop=True):
+        """Stores a segment. False: no descriptor is free."""
+        return _done(self._call(1, bytes(segment), eop), _2="unfit", _3="not on")
+
+    def set_quiet(self):
+        return _done(self._call(2))
+
+    def _call(self, operation, segment=b"", eop=False):
+        call = _Call(operation=operation, eop=eop)
+        _calls["rx_serve"](byref(self._pair.device), byref(call), segment, len(segment))
+        return call.answer
+
+
+class TxDriver(_Driver):
+    def post(self, segment, eop=True, rs=True, paylen=None):
+        """Posts a segment of a frame of `paylen` bytes, by default one that is the whole frame. False: no room now."""
+        segment = bytes(segment)
+        call = _Call(operation=0, eop=eop, rs=rs, paylen=len(segment) if paylen is None else paylen)
+        return _done(self._call(call, segment).answer, _2="unfit")
+
+    def poll_report(self):
+        return _done(self._step(2))
+
+    def clean(self):
+        return _done(self._step(6))
+
+    def unsent(self):
+        """How many segments were posted and not sent."""
+        return self._left()
+
+    def _call(self, call, segment=b""):
+        _calls["tx_drive"](byref(self._pair.driver), byref(call), segment, len(segment))
+        return call
+
+
+class TxController:
+    def __init__(self, pair):
+        self._pair = pair
+
+    def answer(self):
+        return _done(self._call(0, _room(0)).answer)
+
+    def send(self):
+        """The next segment, as its bytes and EOP, or None if none is ready."""
+        room = _room(BUFFER_BYTES)
+        call = self._call(1, room)
+        return (bytes(room[: call.len]), bool(call.eop)) if _done(call.answer, _3="not on") else None
+
+    def _call(self, operation, room):
+        call = _Call(operation=operation)
+        _calls["tx_serve"](byref(self._pair.device), byref(call), room, len(room))
+        return call
+
+
+class Packets:
+    """A worker's packets: its empty buffers, and a list of up to 32 packets, named by their places from 0."""
+
+    def __init__(self, buffers=256):
+        self._handle = _Handle()
+        refusal = _calls["packets_new"](buffers, byref(self._handle))
+        if refusal:
+            raise Refused(_made[refusal])
+
+    def __del__(self):
+        _calls["packets_close"](byref(self._handle))
+
+    def __len__(self):
+        return self._call(_Packet(operation=4)).packet
+
+    def empty_buffers(self):
+        return self._call(_Packet(operation=4)).len
+
+    def put(self, frame):
+        frame = bytes(frame)
+        return _done(_calls["packets_put"](byref(self._handle), frame, len(frame)), _2="unfit")
+
+    def copy(self, packet):
+        """The bytes of a packet, or None if there is no such packet."""
+        room = _room(MOST_FRAME)
+        call = self._call(_Packet(operation=0, packet=packet), room)
+        return bytes(room[: call.len]) if _done(call.answer) else None
+
+    def touch(self, packet, at, byte):
+        return _done(self._call(_Packet(operation=2, packet=packet, at=at, byte=byte)).answer)
+
+    def free(self, packet):
+        return _done(self._call(_Packet(operation=3, packet=packet)).answer, _2="stash full")
+
+    def _call(self, call, room=None):
+        room = room or _room(0)
+        _calls["packets_do"](byref(self._handle), byref(call), room, len(room))
+        return call
+
+
+class _Queue:
+    """The calls that queues of both directions have."""
+
+    def __init__(self, pair):
+        self._pair = pair
+
+    def enable(self):
+        """Asks for the queue to be enabled, if nothing was asked yet, and returns whether it is on."""
+        return _done(self._step(0).answer, _2="not renewed")
+
+    def disable(self):
+        return _done(self._step(1).answer)
+
+    def finish(self):
+        """Once the disabling is answered: how many segments are left. None before, and afterwards."""
+        call = self._step(2)
+        return call.count if _done(call.answer) else None
+
+    def renew(self):
+        return _done(self._step(3).answer)
+
+    def batch(self, packets):
+        """Takes packets and posts empty buffers, or posts packets. Returns how many packets it took or posted."""
+        call = self._moved(0, packets)
+        if not _done(call.answer, _3="too long"):
+            raise Refused("not on")
+        return call.count
+
+    def reclaim(self, packets):
+        """Takes back the buffers of a disabled queue. Returns how many, and whether these are all."""
+        call = self._moved(self._reclaim, packets)
+        return call.count, _done(call.answer, _2="not disabled")
+
+    def _step(self, operation):
+        call = _Batch(operation=operation)
+        _calls[f"{self._kind}_do"](byref(self._pair.driver), byref(call))
+        return call
+
+    def _moved(self, operation, packets):
+        call = _Batch(operation=operation)
+        _calls[f"{self._kind}_move"](byref(self._pair.driver), byref(packets._handle), byref(call))
+        return call
+
+
+class _RxQueue(_Queue):
+    _kind, _reclaim = "rx_queue", 1
+
+    def is_quiet(self):
+        return _done(self._step(4).answer)
+
+
+class _TxQueue(_Queue):
+    _kind, _reclaim = "tx_queue", 2
+
+    def clean(self, packets):
+        call = self._moved(1, packets)
+        if not _done(call.answer):
+            raise Refused("not on")
+        return call.count
+
+
+class RxDevice:
+    def __init__(self, pair):
+        self._pair = pair
+
+    def offer(self, frame):
+        """Offers a frame: "stored", "held", "dropped" or "oversize"."""
+        frame = bytes(frame)
+        answer = self._call(0, frame).answer
+        answers = {0: "held", 1: "stored", 4: "oversize", 5: "dropped"}
+        return answers[answer] if answer in answers else _done(answer, _2="unfit", _3="not on")
+
+    def control(self):
+        """Loads the control word, answers what the driver asks, and returns the word that it stored, or else loaded."""
+        return self._call(1).answer
+
+    def finish(self):
+        return _done(self._call(2).answer)
+
+    def counts(self):
+        call = self._call(3)
+        return {name: getattr(call, name) for name in ("offered", "stored", "dropped", "oversize")}
+
+    def _call(self, operation, frame=b""):
+        call = _Offered(operation=operation)
+        _calls["rx_device_do"](byref(self._pair.device), byref(call), frame, len(frame))
+        return call
+
+
+class TxDevice:
+    def __init__(self, pair):
+        self._pair = pair
+
+    def turn(self):
+        """Sends the next frame and returns its bytes, or None if none is ready."""
+        room = _room(MOST_FRAME)
+        call = self._call(0, room)
+        return bytes(room[: call.count]) if _done(call.answer, _3="not on", _5="memory") else None
+
+    def control(self):
+        return self._call(1, _room(0)).answer
+
+    def _call(self, operation, room):
+        call = _Batch(operation=operation)
+        _calls["tx_device_do"](byref(self._pair.device), byref(call), room, len(room))
+        return call
+
+
+def RxRing(descriptors, buffers=256):
+    """A receive ring, segment by segment: its driver and its controller."""
+    pair = _Pair("rx", descriptors, buffers)
+    return RxDriver(pair), RxController(pair)
+
+
+def TxRing(descriptors, buffers=256, by_head=False):
+    """A transmit ring, segment by segment: its driver and its controller."""
+    pair = _Pair("tx", descriptors, buffers, by_head)
+    return TxDriver(pair), TxController(pair)
+
+
+def RxQueue(descriptors, batch=32, fill=2048, drop_en=False):
+    """A receive queue in batches, and its device."""
+    pair = _Pair("rx_queue", descriptors, batch, fill, drop_en)
+    return _RxQueue(pair), RxDevice(pair)
+
+
+def TxQueue(descriptors, every=32, by_head=False):
+    """A transmit queue in batches, and its device."""
+    pair = _Pair("tx_queue", descriptors, every, by_head)
+    return _TxQueue(pair), TxDevice(pair)
+
+
+_FORMS = {"rx read": 0, "rx back": 1, "tx read": 2, "tx back": 3}
+
+
+def decode(form, descriptor):
+    """The fields of a descriptor of 16 bytes. The form is "rx read", "rx back", "tx read" or "tx back"."""
+    said = _Descriptor()
+    refusal = _calls["decode"](_FORMS[form], bytes(descriptor), len(descriptor), byref(said))
+    if refusal:
+        raise Refused({1: "not 16 bytes", 2: "a fixed bit differs", 3: "no advanced data descriptor", 4: "a length is out of range"}[refusal])
+    return {name: getattr(said, name) for name, _ in said._fields_}
+
+
+def encode(form, **fields):
+    """The 16 bytes of a descriptor with these fields."""
+    room = _room(16)
+    if _calls["encode"](_FORMS[form], byref(_Descriptor(**fields)), room, 16):
+        raise Refused("no descriptor of the form has these fields")
+    return bytes(room)
+
+
+def moves(text, pairs=1, descriptors=8, enabled=True, by_head=False, json=False):
+    """Makes the moves of a text, one a line, on new queues, and returns what `replay` prints."""
+    plan, text, moved, room = _Plan(pairs, descriptors, enabled, by_head, json), text.encode(), _Moved(), _room(65536)
+    while True:
+        answer = _calls["moves"](byref(plan), text, len(text), room, len(room), byref(moved))
+        if answer == 0:
+            return bytes(room[: moved.needed]).decode("ascii")
+        if answer != 1:
+            raise Refused({12: "there can be no such queues", 14: f"line {moved.line} is no move"}.get(answer, f"refusal {answer}"))
+        room = _room(moved.needed)
+
+
+def once(frame):
+    """Passes a frame of 14 to 14,336 bytes through a receive ring of 8 descriptors, and returns what its driver took."""
+    frame, room = bytes(frame), _room(len(frame))
+    answer = _calls["once"](frame, len(frame), room, len(frame))
+    if answer:
+        raise Refused({1: "the frame does not have 14 to 14,336 bytes", 2: "memory"}[answer])
+    return bytes(room[: len(frame)])

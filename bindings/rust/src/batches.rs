@@ -1,0 +1,415 @@
+//! Queues in batches, as an ixgbe driver uses them, and devices that take and send whole frames.
+
+use crate::ffi::{self, Batch, Ends, Handle, NO_END, Offered, Packet};
+use crate::results::{MakeError, Refusal, State, is_done, unanswered};
+use crate::rings::{Completion, MOST_FRAME};
+use std::cell::UnsafeCell;
+use std::sync::Arc;
+
+/// A worker's packets: its empty buffers, and a list of up to 32 packets, the oldest first. A packet is named by its place in that
+/// list, from 0.
+pub struct Packets {
+    handle: Box<UnsafeCell<Handle>>,
+}
+
+// SAFETY: a handle of the library may go to another thread between two calls.
+unsafe impl Send for Packets {}
+
+/// The settings of a receive queue.
+#[derive(Clone, Copy, Debug, PartialEq, Eq)]
+pub struct RxSettings {
+    /// The descriptors of its ring: a power of two from 8 to 4,096.
+    pub descriptors: u32,
+    /// The most packets in a batch: 1 to 32.
+    pub batch: usize,
+    /// To how many bytes the device fills a buffer: 1,024 or 2,048.
+    pub fill: usize,
+    /// Whether a frame is dropped when too few descriptors are free (`SRRCTL.Drop_En`), or else held.
+    pub drop_en: bool,
+}
+
+/// The settings of a transmit queue.
+#[derive(Clone, Copy, Debug, PartialEq, Eq)]
+pub struct TxSettings {
+    /// The descriptors of its ring: a power of two from 8 to 4,096.
+    pub descriptors: u32,
+    /// Each `every`th frame asks for a report, and so does the last of a batch: 1 to 4,096.
+    pub every: u16,
+    /// How the ring reports what was sent.
+    pub completion: Completion,
+}
+
+/// The driver's side of a receive queue.
+pub struct RxQueue {
+    ends: Arc<Ends>,
+}
+
+/// The device's side of a receive queue.
+pub struct RxDevice {
+    ends: Arc<Ends>,
+}
+
+/// The driver's side of a transmit queue.
+pub struct TxQueue {
+    ends: Arc<Ends>,
+}
+
+/// The device's side of a transmit queue.
+pub struct TxDevice {
+    ends: Arc<Ends>,
+}
+
+/// What became of an offered frame.
+#[derive(Clone, Copy, Debug, PartialEq, Eq)]
+pub enum Offer {
+    /// It is stored whole.
+    Stored,
+    /// Too few descriptors are free; offer it again.
+    Held,
+    /// Too few descriptors are free, and it is dropped.
+    Dropped,
+    /// It needs at least as many descriptors as the ring has.
+    Oversize,
+}
+
+/// The frames that a receive device stored, dropped or found oversize, and all of them together.
+#[derive(Clone, Copy, Debug, PartialEq, Eq, Default)]
+pub struct Counts {
+    pub offered: u64,
+    pub stored: u64,
+    pub dropped: u64,
+    pub oversize: u64,
+}
+
+/// How far a reclaiming came.
+#[derive(Clone, Copy, Debug, PartialEq, Eq)]
+pub struct Reclaimed {
+    /// The buffers that came back by this call.
+    pub buffers: usize,
+    /// Whether none is left in the ring. If not, the worker has 256 empty buffers.
+    pub all: bool,
+}
+
+impl Packets {
+    /// Makes a worker's packets: none, and `buffers` empty buffers, 16 to 256.
+    pub fn new(buffers: u32) -> Result<Packets, MakeError> {
+        let packets = Packets { handle: Box::new(Handle::empty()) };
+        // SAFETY: the handle is empty.
+        match unsafe { ffi::poll82599_packets_new(buffers, packets.handle.get()) } {
+            0 => Ok(packets),
+            refusal => Err(MakeError::of(refusal)),
+        }
+    }
+
+    /// Appends a packet of a frame of 14 to 15,000 bytes, which are copied. Returns false if there are 32 packets or too few
+    /// empty buffers, and `Unfit` for another length.
+    pub fn put(&mut self, frame: &[u8]) -> Result<bool, Refusal> {
+        // SAFETY: the handle is full, only this call uses it, and the frame has its length.
+        match unsafe { ffi::poll82599_packets_put(self.handle.get(), frame.as_ptr(), frame.len()) } {
+            2 => Err(Refusal::Unfit),
+            answer => Ok(is_done(answer)),
+        }
+    }
+
+    /// How many packets there are.
+    pub fn len(&self) -> usize {
+        self.counted().0
+    }
+
+    /// Whether there is no packet.
+    pub fn is_empty(&self) -> bool {
+        self.len() == 0
+    }
+
+    /// How many empty buffers there are.
+    pub fn empty_buffers(&self) -> usize {
+        self.counted().1
+    }
+
+    /// Copies a packet to the beginning of `room`, and returns its bytes there, or `None` if there is no such packet.
+    ///
+    /// Returns `NoRoom` if the room is smaller than the packet.
+    pub fn copy<'a>(&self, packet: usize, room: &'a mut [u8]) -> Result<Option<&'a [u8]>, Refusal> {
+        let call = self.call(Packet { operation: 0, packet, ..Packet::default() }, room);
+        match call.answer {
+            1 => Ok(Some(&room[..call.len])),
+            0 => Ok(None),
+            4 => Err(Refusal::NoRoom),
+            other => unanswered(other),
+        }
+    }
+
+    /// A byte of a packet, or `None` if there is no such packet or byte.
+    pub fn byte(&self, packet: usize, at: usize) -> Option<u8> {
+        let call = self.call(Packet { operation: 1, packet, at, ..Packet::default() }, &mut []);
+        is_done(call.answer).then_some(call.byte)
+    }
+
+    /// Replaces a byte of a packet. Returns false if there is no such packet or byte.
+    pub fn touch(&mut self, packet: usize, at: usize, byte: u8) -> bool {
+        is_done(self.call(Packet { operation: 2, packet, at, byte, ..Packet::default() }, &mut []).answer)
+    }
+
+    /// Frees a packet: its buffers are empty ones again, and later packets move up. Returns false if there is no such packet.
+    ///
+    /// Returns `StashFull` if the worker would have more than 256 empty buffers.
+    pub fn free(&mut self, packet: usize) -> Result<bool, Refusal> {
+        match self.call(Packet { operation: 3, packet, ..Packet::default() }, &mut []).answer {
+            2 => Err(Refusal::StashFull),
+            answer => Ok(is_done(answer)),
+        }
+    }
+
+    /// The numbers of packets and of empty buffers.
+    fn counted(&self) -> (usize, usize) {
+        let call = self.call(Packet { operation: 4, ..Packet::default() }, &mut []);
+        (call.packet, call.len)
+    }
+
+    fn call(&self, mut call: Packet, room: &mut [u8]) -> Packet {
+        // SAFETY: the handle is full. `Packets` is not `Sync`, so no other call uses it, and the room has its length.
+        unsafe { ffi::poll82599_packets_do(self.handle.get(), &mut call, room.as_mut_ptr(), room.len()) };
+        call
+    }
+}
+
+impl Drop for Packets {
+    fn drop(&mut self) {
+        // SAFETY: no other call uses the handle. An empty one stays as it is.
+        unsafe { ffi::poll82599_packets_close(self.handle.get()) };
+    }
+}
+
+impl RxQueue {
+    /// Makes a receive queue and its device. The queue is off.
+    ///
+    /// ```
+    /// use poll82599::{Offer, Packets, RxQueue, RxSettings, State};
+    ///
+    /// let settings = RxSettings { descriptors: 64, batch: 32, fill: 2048, drop_en: false };
+    /// let (mut queue, mut device) = RxQueue::new(settings)?;
+    /// let mut packets = Packets::new(128)?;
+    /// assert!(!queue.enable()?);
+    /// assert_eq!(device.control(), State::On);
+    /// assert!(queue.enable()?);
+    /// assert_eq!(queue.batch(&mut packets)?, 0); // posts the first buffers
+    /// assert_eq!(device.offer(&[7; 60])?, Offer::Stored);
+    /// assert_eq!(queue.batch(&mut packets)?, 1);
+    /// assert_eq!(packets.byte(0, 59), Some(7));
+    /// # Ok::<(), Box<dyn std::error::Error>>(())
+    /// ```
+    pub fn new(settings: RxSettings) -> Result<(RxQueue, RxDevice), MakeError> {
+        let RxSettings { descriptors, batch, fill, drop_en } = settings;
+        // SAFETY: both handles are empty.
+        let ends = Ends::make(ffi::poll82599_rx_queue_close, |queue, device| unsafe {
+            ffi::poll82599_rx_queue_new(descriptors, batch, fill, u32::from(drop_en), queue, device)
+        })
+        .map_err(MakeError::of)?;
+        Ok((RxQueue { ends: Arc::clone(&ends) }, RxDevice { ends }))
+    }
+
+    /// Closes a queue and its device, and frees the buffers in its ring. Returns how many these were, or both sides if they are
+    /// of two queues.
+    pub fn close(queue: RxQueue, device: RxDevice) -> Result<u64, (RxQueue, RxDevice)> {
+        if Arc::ptr_eq(&queue.ends, &device.ends) { Ok(Ends::closed(queue.ends, device.ends)) } else { Err((queue, device)) }
+    }
+
+    /// Takes the packets that are complete, up to a batch, and appends them to the worker's; posts as many empty buffers as fit.
+    /// Returns how many packets it took.
+    pub fn batch(&mut self, packets: &mut Packets) -> Result<usize, Refusal> {
+        match self.moved(packets, 0) {
+            (1, count) => Ok(count),
+            (0, _) => Err(Refusal::NotOn),
+            (other, _) => unanswered(other),
+        }
+    }
+
+    /// Loads the quiet word: whether the device said that it stores no more.
+    pub fn is_quiet(&mut self) -> bool {
+        is_done(self.step(4).0)
+    }
+
+    fn moved(&mut self, packets: &mut Packets, operation: u32) -> (u32, usize) {
+        let mut call = Batch { operation, ..Batch::default() };
+        // SAFETY: both handles are full, and only this call uses them.
+        unsafe { ffi::poll82599_rx_queue_move(self.ends.driver(), packets.handle.get(), &mut call) };
+        (call.answer, call.count)
+    }
+
+    fn step(&mut self, operation: u32) -> (u32, usize) {
+        let mut call = Batch { operation, ..Batch::default() };
+        // SAFETY: the handle is full, and only this side uses it.
+        unsafe { ffi::poll82599_rx_queue_do(self.ends.driver(), &mut call) };
+        (call.answer, call.count)
+    }
+}
+
+impl TxQueue {
+    /// Makes a transmit queue and its device. The queue is off.
+    pub fn new(settings: TxSettings) -> Result<(TxQueue, TxDevice), MakeError> {
+        let TxSettings { descriptors, every, completion } = settings;
+        let by_head = u32::from(completion == Completion::HeadWord);
+        // SAFETY: both handles are empty.
+        let ends = Ends::make(ffi::poll82599_tx_queue_close, |queue, device| unsafe {
+            ffi::poll82599_tx_queue_new(descriptors, every, by_head, queue, device)
+        })
+        .map_err(MakeError::of)?;
+        Ok((TxQueue { ends: Arc::clone(&ends) }, TxDevice { ends }))
+    }
+
+    /// Closes a queue and its device, and frees the buffers in its ring. Returns how many these were, or both sides if they are
+    /// of two queues.
+    pub fn close(queue: TxQueue, device: TxDevice) -> Result<u64, (TxQueue, TxDevice)> {
+        if Arc::ptr_eq(&queue.ends, &device.ends) { Ok(Ends::closed(queue.ends, device.ends)) } else { Err((queue, device)) }
+    }
+
+    /// Takes back reported buffers, and posts the worker's packets, the oldest first, as long as they fit. Returns how many it
+    /// posted; they are no longer in the worker's list.
+    ///
+    /// Returns `TooLong` if the oldest packet can never fit; only reported buffers came back then.
+    pub fn batch(&mut self, packets: &mut Packets) -> Result<usize, Refusal> {
+        match self.moved(packets, 0) {
+            (1, count) => Ok(count),
+            (0, _) => Err(Refusal::NotOn),
+            (3, _) => Err(Refusal::TooLong),
+            (other, _) => unanswered(other),
+        }
+    }
+
+    /// Takes back reported buffers. Returns how many.
+    pub fn clean(&mut self, packets: &mut Packets) -> Result<usize, Refusal> {
+        let (answer, count) = self.moved(packets, 1);
+        is_done(answer).then_some(count).ok_or(Refusal::NotOn)
+    }
+
+    fn moved(&mut self, packets: &mut Packets, operation: u32) -> (u32, usize) {
+        let mut call = Batch { operation, ..Batch::default() };
+        // SAFETY: both handles are full, and only this call uses them.
+        unsafe { ffi::poll82599_tx_queue_move(self.ends.driver(), packets.handle.get(), &mut call) };
+        (call.answer, call.count)
+    }
+
+    fn step(&mut self, operation: u32) -> (u32, usize) {
+        let mut call = Batch { operation, ..Batch::default() };
+        // SAFETY: the handle is full, and only this side uses it.
+        unsafe { ffi::poll82599_tx_queue_do(self.ends.driver(), &mut call) };
+        (call.answer, call.count)
+    }
+}
+
+/// The calls that queues of both directions have. `reclaim` has a number of its own in each.
+macro_rules! queue_calls {
+    ($queue:ident, reclaim $reclaim:literal) => {
+        impl $queue {
+            /// Asks for the queue to be enabled, if nothing was asked yet, and loads the control word. Returns whether it is on.
+            /// Call it until it is; meanwhile the device has to call `control`.
+            ///
+            /// Returns `NotRenewed` if a disabling was seen answered.
+            pub fn enable(&mut self) -> Result<bool, Refusal> {
+                match self.step(0).0 {
+                    2 => Err(Refusal::NotRenewed),
+                    answer => Ok(is_done(answer)),
+                }
+            }
+
+            /// Asks for the queue to be disabled. Returns false if it was not seen on, or this was asked before.
+            pub fn disable(&mut self) -> bool {
+                is_done(self.step(1).0)
+            }
+
+            /// Loads the control word, and once the disabling is answered the head. Returns then, once, how many segments are
+            /// left: stored and not taken, or posted and not sent.
+            pub fn finish(&mut self) -> Option<usize> {
+                let (answer, left) = self.step(2);
+                is_done(answer).then_some(left)
+            }
+
+            /// Takes the buffers of a disabled queue back as empty ones of the worker.
+            pub fn reclaim(&mut self, packets: &mut Packets) -> Result<Reclaimed, Refusal> {
+                match self.moved(packets, $reclaim) {
+                    (2, _) => Err(Refusal::NotDisabled),
+                    (answer, buffers) => Ok(Reclaimed { buffers, all: is_done(answer) }),
+                }
+            }
+
+            /// Makes a disabled queue from which all buffers are back as new. Returns false if no disabling was seen answered,
+            /// or a buffer is still in the ring.
+            pub fn renew(&mut self) -> bool {
+                is_done(self.step(3).0)
+            }
+        }
+    };
+}
+
+queue_calls!(RxQueue, reclaim 1);
+queue_calls!(TxQueue, reclaim 2);
+
+impl RxDevice {
+    /// Offers a frame that came in, of 14 to 15,000 bytes.
+    ///
+    /// Returns `Unfit` for another length, and `NotOn` if the queue is off or the device has finished.
+    pub fn offer(&mut self, frame: &[u8]) -> Result<Offer, Refusal> {
+        match self.call(0, frame).answer {
+            1 => Ok(Offer::Stored),
+            0 => Ok(Offer::Held),
+            2 => Err(Refusal::Unfit),
+            3 => Err(Refusal::NotOn),
+            4 => Ok(Offer::Oversize),
+            5 => Ok(Offer::Dropped),
+            other => unanswered(other),
+        }
+    }
+
+    /// Loads the control word, and answers what the driver asks. Returns the word that it stored, or else loaded.
+    pub fn control(&mut self) -> State {
+        State::of(self.call(1, &[]).answer)
+    }
+
+    /// Says that no more is stored until the queue is enabled again. Returns false if the queue is off, or this was said before.
+    pub fn finish(&mut self) -> bool {
+        is_done(self.call(2, &[]).answer)
+    }
+
+    /// The outcomes of the frames offered so far. A frame that was held, or refused, counts nowhere.
+    pub fn counts(&mut self) -> Counts {
+        let Offered { offered, stored, dropped, oversize, .. } = self.call(3, &[]);
+        Counts { offered, stored, dropped, oversize }
+    }
+
+    fn call(&mut self, operation: u32, frame: &[u8]) -> Offered {
+        let mut call = Offered { operation, ..Offered::default() };
+        // SAFETY: the handle is full, only this side uses it, and the frame has its length.
+        unsafe { ffi::poll82599_rx_device_do(self.ends.device(), &mut call, frame.as_ptr(), frame.len()) };
+        call
+    }
+}
+
+impl TxDevice {
+    /// Sends the next frame, in the order in which they were posted, and reports it if it asks for a report. Returns its bytes in
+    /// `room`, or `None` if none is ready.
+    ///
+    /// Returns `NotOn` if the queue is off, and `Memory`; the frame is not sent then.
+    pub fn turn<'a>(&mut self, room: &'a mut [u8; MOST_FRAME]) -> Result<Option<&'a [u8]>, Refusal> {
+        let (answer, len) = self.call(0, room);
+        match answer {
+            1 => Ok(Some(&room[..len])),
+            0 => Ok(None),
+            3 => Err(Refusal::NotOn),
+            5 => Err(Refusal::Memory),
+            other => unanswered(other),
+        }
+    }
+
+    /// Loads the control word, and answers what the driver asks. Returns the word that it stored, or else loaded.
+    pub fn control(&mut self) -> State {
+        State::of(self.call(1, &mut []).0)
+    }
+
+    fn call(&mut self, operation: u32, room: &mut [u8]) -> (u32, usize) {
+        let mut call = Batch { operation, ..Batch::default() };
+        // SAFETY: the handle is full, only this side uses it, and the room has its length.
+        unsafe { ffi::poll82599_tx_device_do(self.ends.device(), &mut call, room.as_mut_ptr(), room.len()) };
+        debug_assert_ne!(call.answer, NO_END);
+        (call.answer, call.count)
+    }
+}
