@@ -79,11 +79,10 @@ enum poll82599_result {
     POLL82599_STASH_FULL = 2,   /* packet_free: the worker would have too many empty buffers */
     POLL82599_NOT_ON = 3,       /* rx_poll, rx_store.., tx_send, offer, turn: the queue is off, or was said to be quiet */
     POLL82599_TOO_LONG = 3,     /* tx_batch: the oldest packet has too many segments */
-    POLL82599_NO_ROOM = 4,      /* rx_poll, tx_send, turn, packet_copy: `room` is too small */
+    POLL82599_NO_ROOM = 4,      /* rx_poll, tx_send, turn, packet_copy: `room` is too small. After turn the frame waits in the device */
     POLL82599_OVERSIZE = 4,     /* offer: the frame needs at least as many descriptors as the ring has */
     POLL82599_DROPPED = 5,      /* offer: too few descriptors are free */
-    POLL82599_NO_MEMORY = 5,    /* turn */
-    POLL82599_LOST = 6          /* turn: sent, but longer than `room` */
+    POLL82599_NO_MEMORY = 5     /* turn */
 };
 
 /* What a call returns for a handle that is empty or of another kind, and for an unknown operation number; and what a close returns for
@@ -662,10 +661,10 @@ static inline struct poll82599_offered poll82599_rx_device_counts(struct poll825
     return call;
 }
 
-/* Sends the next frame, in the order in which they were posted, and reports it if it asks for a report. `room` must be at least 15,000.
- * Returns 1: the frame is at the beginning of `bytes`, its length in `*len`; 0: none is ready; 3: the queue is off; 4: `room` is too
- * small; 5: no memory; 6: the frame is longer than `room`, and its bytes are lost (no frame of a lawful ring is). Only 1 and 6 send
- * anything. */
+/* Sends the next frame, in the order in which they were posted, and reports it if it asks for a report. Returns 1: the frame is at the
+ * beginning of `bytes`, its length in `*len`; 0: none is ready; 3: the queue is off; 4: the frame is longer than `room`, its length in
+ * `*len`; 5: no memory. Only 1 and 4 send anything. After 4 the frame waits in the device: the next call sends nothing, and hands that
+ * frame out if it has room for it. */
 static inline uint32_t poll82599_turn(struct poll82599_tx_device *device, uint8_t *bytes, size_t room, size_t *len)
 {
     struct poll82599_batch call = {POLL82599_TX_DEVICE_TURN, 0, 0};

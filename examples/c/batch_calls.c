@@ -123,10 +123,11 @@ static void transmit(void)
     expect("turn, nothing posted", poll82599_turn(&tx_device, got, sizeof got, &len), 0);
     expect("batch", poll82599_tx_batch(&tx, &packets, &count), 1);
     expect("packets of the batch", (long long)count, 2);
-    expect("turn, room of 14,999 bytes", poll82599_turn(&tx_device, got, sizeof got - 1, &len), 4);
-    expect("turn", poll82599_turn(&tx_device, got, sizeof got, &len), 1);
+    expect("turn, room of 4,999 bytes", poll82599_turn(&tx_device, got, 4999, &len), 4);
+    expect("length of the frame that waits", (long long)len, 5000);
+    expect("turn, room of 5,000 bytes", poll82599_turn(&tx_device, got, 5000, &len), 1);
     expect("the bytes differ", len != 5000 || memcmp(got, frame, 5000) != 0, 0);
-    expect("turn", poll82599_turn(&tx_device, got, sizeof got, &len), 1);
+    expect("turn, room of 3,000 bytes", poll82599_turn(&tx_device, got, 3000, &len), 1);
     expect("the bytes differ", len != 3000 || memcmp(got, frame, 3000) != 0, 0);
     expect("clean", poll82599_tx_queue_clean(&tx, &packets, &count), 1);
     expect("buffers cleaned", (long long)count, 6);

@@ -2,7 +2,7 @@
 
 use crate::ffi::{self, Batch, Ends, Handle, NO_END, Offered, Packet};
 use crate::results::{MakeError, Refusal, State, is_done, unanswered};
-use crate::rings::{Completion, MOST_FRAME};
+use crate::rings::Completion;
 use std::cell::UnsafeCell;
 use std::sync::Arc;
 
@@ -388,13 +388,15 @@ impl TxDevice {
     /// Sends the next frame, in the order in which they were posted, and reports it if it asks for a report. Returns its bytes in
     /// `room`, or `None` if none is ready.
     ///
-    /// Returns `NotOn` if the queue is off, and `Memory`; the frame is not sent then.
-    pub fn turn<'a>(&mut self, room: &'a mut [u8; MOST_FRAME]) -> Result<Option<&'a [u8]>, Refusal> {
+    /// Returns `NotOn` if the queue is off, and `Memory`; the frame is not sent then. Returns `NoRoom` if the frame is longer than
+    /// `room`; then it was sent and waits, and the next call with room for it hands it out.
+    pub fn turn<'a>(&mut self, room: &'a mut [u8]) -> Result<Option<&'a [u8]>, Refusal> {
         let (answer, len) = self.call(0, room);
         match answer {
             1 => Ok(Some(&room[..len])),
             0 => Ok(None),
             3 => Err(Refusal::NotOn),
+            4 => Err(Refusal::NoRoom),
             5 => Err(Refusal::Memory),
             other => unanswered(other),
         }

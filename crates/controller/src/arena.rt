@@ -87,6 +87,15 @@ impl Arena {
         self.ends.push_reserved(self.bytes.len());
     }
 
+    /// Removes all frames and the bytes of an unfinished one. Keeps the memory.
+    pub(crate) fn clear(&mut self)
+        ensures frames { self.new.frames ≡ [] }
+        ensures begun { self.new.begun ≡ [] }
+    {
+        self.bytes.clear();
+        self.ends.clear();
+    }
+
     /// The number of frames.
     #[inline]
     pub(crate) fn len(&self) -> usize

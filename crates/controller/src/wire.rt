@@ -58,6 +58,13 @@ impl Wire {
         self.len() == 0
     }
 
+    /// Removes all frames. Keeps the memory, so that as many frames can be sent again without an allocation.
+    pub fn clear(&mut self)
+        ensures { self.new ≡ [] }
+    {
+        self.arena.clear();
+    }
+
     /// The bytes of frame `i`.
     #[inline]
     pub fn frame(&self, i: usize) -> &[u8]

@@ -29,12 +29,13 @@ use Rattle.poll82599_c.specs.contracts.half.Half as Half
 use Rattle.poll82599_c.specs.contracts.half.RxControllerOfRing.TheImpl as rx_device_of
 use Rattle.poll82599_c.specs.contracts.half.RxDriverOfRing.TheImpl as rx_queue_of
 use Rattle.poll82599_c.specs.contracts.half.TxControllerEndOfRing.TheImpl as tx_serving_of
-use Rattle.poll82599_c.specs.contracts.half.TxControllerOfRing.TheImpl as tx_device_of
+use Rattle.poll82599_c.specs.contracts.half.SenderOfRing.TheImpl as tx_device_of
 use Rattle.poll82599_c.specs.contracts.half.TxDriverOfRing.TheImpl as tx_queue_of
 use Rattle.poll82599_c.specs.contracts.rings.driving.RxDriving as RxDriving
 use Rattle.poll82599_c.specs.contracts.rings.serving.RxServing as RxServing
 use Rattle.poll82599_c.specs.contracts.rings.driving.TxDriving as TxDriving
 use Rattle.poll82599_c.specs.contracts.batches.packets.Packets as Packets
+use Rattle.poll82599_c.specs.contracts.batches.tx_device.Sender as Sender
 
 ruleset parts = (sendable, crosses, cells.the_field_send, lease.the_send, lease.the_sync, seat.the_send, shared.the_send, shared.the_sync, send-Chain, sync-Chain, room.the_field_send, room.the_field_sync, tally.the_field_send, phantom.the_field_send, option.the_send, option.the_sync, begun.the_field_send, completion.the_field_send, controller_places.the_field_send, driver_places.the_field_send, heap.the_send, heap.the_sync)
 
@@ -59,7 +60,7 @@ rx_device = search parts depth 60
 pub rx_queue : IsSend (Half.the_row RxRing.the_row RxDriver.the_row rx_ring.ghosts rx_queue_of.ghosts)
 rx_queue = search parts depth 60
 
-pub tx_device : IsSend (Half.the_row TxRing.the_row TxController.the_row tx_ring.ghosts tx_device_of.ghosts)
+pub tx_device : IsSend (Half.the_row TxRing.the_row Sender.the_row tx_ring.ghosts tx_device_of.ghosts)
 tx_device = search parts depth 60
 
 pub tx_queue : IsSend (Half.the_row TxRing.the_row TxDriver.the_row tx_ring.ghosts tx_queue_of.ghosts)

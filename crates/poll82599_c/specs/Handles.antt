@@ -6,6 +6,7 @@ use Rattle.driver.specs.receive.Receiver.{Receiver}
 use Rattle.driver.specs.transmit.Transmitter.{Transmitter}
 use Rattle.controller.specs.Receiving.{Receiving}
 use Rattle.poll82599_c.specs.batches.Packets.{Worked}
+use Rattle.poll82599_c.specs.batches.Transmitting.{Sending}
 use Rattle.poll82599_c.specs.declared.end.End.{End}
 use Rattle.poll82599_c.specs.declared.end.End.TheVariants.{RxDriver, RxController, TxDriver, TxController, RxQueue, RxDevice, TxQueue, TxDevice, Packets}
 
@@ -42,8 +43,13 @@ as_tx_queue (Some (TxQueue q)) = Some q
 as_tx_queue _ = None
 
 abbrev pub as_tx_device : Option End → Option tx.ControllerSide
-as_tx_device (Some (TxDevice d)) = Some d
+as_tx_device (Some (TxDevice d)) = Some d.end
 as_tx_device _ = None
+
+-- the same device, with the frame that waits in it
+abbrev pub as_sender : Option End → Option Sending
+as_sender (Some (TxDevice d)) = Some d
+as_sender _ = None
 
 abbrev pub as_packets : Option End → Option Worked
 as_packets (Some (Packets p)) = Some p

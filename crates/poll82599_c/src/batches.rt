@@ -11,4 +11,4 @@ pub(crate) use found::Found;
 pub(crate) use packets::{Packets, fresh_packets};
 pub(crate) use queue::{BatchQueue, RxQueue, TxQueue};
 pub(crate) use rx_device::RxDevice;
-pub(crate) use tx_device::TxDevice;
+pub(crate) use tx_device::{Sender, TxDevice};

@@ -2,7 +2,8 @@
 ghost use Rattle.std.specs.Prelude.{◌≡◌};
 ghost use Rattle.std.specs.Arc.{arc_value};
 
-use controller::{RxController, TxController};
+use crate::batches::Sender;
+use controller::RxController;
 use driver::{RxDriver, TxDriver};
 use rx_ring::{RxControllerEnd, RxDriverEnd};
 use shared_ring::SharedRing;
@@ -47,8 +48,8 @@ impl OfRing for TxDriver {
     ghost table = { λ d. d.end.table };
 }
 
-impl OfRing for TxController {
-    ghost table = { λ c. c.table };
+impl OfRing for Sender {
+    ghost table = { λ s. s.end.table };
 }
 
 /// A half of a ring: something that belongs to it, and an owner of it.

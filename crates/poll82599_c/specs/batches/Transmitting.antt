@@ -1,5 +1,5 @@
 -- A transmit queue's driver and its device, and their steps.
-use Rattle.std.specs.Prelude.{◌≡◌, ℕ, zero, suc, ◌+◌, ◌++◌, ◌<◌, Option, Some, List, [], ◌∷◌, length, take, drop, map, slice_get}
+use Rattle.std.specs.Prelude.{◌≡◌, ℕ, zero, suc, ◌+◌, ◌++◌, ◌<◌, Option, Some, List, [], ◌∷◌, ◌⊎◌, length, take, drop, map}
 use Rattle.buffer_pool.specs.Packed.{bytes_of}
 use Rattle.ring_model.specs.declared.states.Completion.{Completion}
 use Rattle.ring_model.specs.shared.Frames.{Bytes, frames}
@@ -109,71 +109,79 @@ Did = DidAlike transmitter
 
 -- ---- a device's calls
 
+-- A device: its controller's end, and the frame that was sent last, while it waits for room.
+pub record Sending : Type 0 where
+  pub end : ControllerSide
+  pub waiting : List Bytes
+
+-- no frame waits before or after
+pub record NoneWaits (old new : Sending) : Type 0 where
+  pub before : old.waiting ≡ []
+  pub after : new.waiting ≡ []
+
 -- the next frame was sent, one more than before
 pub record SentWhole (frame : Bytes) (old new : ControllerSide) : Type 0 where
   pub was : WasSent old [] new (frame ∷ [])
   pub frames_are : frames carried (sent new) ≡ frames carried (sent old) ++ frame ∷ []
 
--- the next frame was sent, and its bytes are at the beginning of the room
-pub record SentInto (len : ℕ) (before after : Bytes) (old new : ControllerSide) : Type 0 where
+-- nothing is sent, because this frame was sent before and waits
+pub record Waited (frame : Bytes) (old new : Sending) : Type 0 where
+  pub waits : old.waiting ≡ frame ∷ []
+  pub same : new.end ≡ old.end
+
+-- this frame is at hand: no frame waited and it was sent now, or it was sent before
+abbrev pub IsAtHand : Bytes → Sending → Sending → Type 0
+IsAtHand frame old new = ((old.waiting ≡ []) × SentWhole frame old.end new.end) ⊎ Waited frame old new
+
+-- the frame at hand is at the beginning of the room
+pub record HandedOut (len : ℕ) (before after : Bytes) (old new : Sending) : Type 0 where
   pub frame : Bytes
-  pub went : SentWhole frame old new
+  pub at_hand : IsAtHand frame old new
   pub len_is : len ≡ length frame
   pub copied : after ≡ frame ++ drop (length frame) before
+  pub none_waits : new.waiting ≡ []
 
--- the next frame was sent; it is longer than the room, which did not change
-pub record SentBeyond (len : ℕ) (before after : Bytes) (old new : ControllerSide) : Type 0 where
+-- the frame at hand is longer than the room, and waits
+pub record StillWaits (len : ℕ) (before after : Bytes) (old new : Sending) : Type 0 where
   pub frame : Bytes
-  pub went : SentWhole frame old new
+  pub at_hand : IsAtHand frame old new
   pub len_is : len ≡ length frame
   pub long : length before < length frame
   pub kept : after ≡ before
-
--- the first frame of a wire is at the beginning of the room, or is longer than the room
-pub record CopiedFirst (len : ℕ) (wire : List Bytes) (before after : Bytes) : Type 0 where
-  pub frame : Bytes
-  pub first : slice_get wire 0 ≡ Some frame
-  pub len_is : len ≡ length frame
-  pub copied : after ≡ frame ++ drop (length frame) before
-
-pub record IsBeyond (len : ℕ) (wire : List Bytes) (before : Bytes) : Type 0 where
-  pub frame : Bytes
-  pub first : slice_get wire 0 ≡ Some frame
-  pub len_is : len ≡ length frame
-  pub long : length before < length frame
+  pub waits : new.waiting ≡ frame ∷ []
 
 -- a load of the tail showed that nothing is ready
-abbrev pub FoundIdle : ControllerSide → ControllerSide → Type 0
-FoundIdle old new = WasIdle old [] new []
+abbrev pub FoundIdle : Sending → Sending → Type 0
+FoundIdle old new = WasIdle old.end [] new.end [] × NoneWaits old new
 
 -- the device does not serve
-abbrev pub FoundOff : ControllerSide → ControllerSide → Type 0
-FoundOff old new = WasOff old [] new []
+abbrev pub FoundOff : Sending → Sending → Type 0
+FoundOff old new = WasOff old.end [] new.end [] × NoneWaits old new
 
 -- the tail was loaded, a frame is ready, and memory for it was refused: nothing was fetched
-abbrev pub FoundNoMemory : ControllerSide → ControllerSide → Type 0
-FoundNoMemory old new = WasRefused old [] new []
+abbrev pub FoundNoMemory : Sending → Sending → Type 0
+FoundNoMemory old new = WasRefused old.end [] new.end [] × NoneWaits old new
 
--- the result of sending a frame, and its step: 1 and its length, in the room; 0 idle; 3 off; 4 room too small; 5 no
--- memory; 6 and its length, longer than the room
-abbrev pub TriedTurn : ℕ → ℕ → Bytes → Bytes → ControllerSide → ControllerSide → Type 0
+-- the result of handing out a frame, and its step: 1 and its length, in the room; 0 idle; 3 off; 4 and its length, longer
+-- than the room, so it waits; 5 no memory
+abbrev pub TriedTurn : ℕ → ℕ → Bytes → Bytes → Sending → Sending → Type 0
 TriedTurn zero count before after old new = FoundIdle old new × (after ≡ before)
-TriedTurn (suc zero) count before after old new = SentInto count before after old new
+TriedTurn (suc zero) count before after old new = HandedOut count before after old new
 TriedTurn (suc (suc (suc zero))) count before after old new = FoundOff old new × (after ≡ before)
-TriedTurn (suc (suc (suc (suc zero)))) count before after old new = (new ≡ old) × (after ≡ before)
+TriedTurn (suc (suc (suc (suc zero)))) count before after old new = StillWaits count before after old new
 TriedTurn (suc (suc (suc (suc (suc zero))))) count before after old new = FoundNoMemory old new × (after ≡ before)
-TriedTurn (suc (suc (suc (suc (suc (suc zero)))))) count before after old new = SentBeyond count before after old new
 TriedTurn _ count before after old new = ⊥
 
 -- the control word was loaded, and a request answered if possible: `value` is the word that was stored, otherwise the
 -- one loaded
-pub record Turned (value : ℕ) (old new : ControllerSide) : Type 0 where
+pub record Turned (value : ℕ) (old new : Sending) : Type 0 where
   pub told : Control
   pub value_is : value ≡ control_word told
-  pub turned : TurnedControl old told new
+  pub turned : TurnedControl old.end told new.end
+  pub waiting : new.waiting ≡ old.waiting
 
 -- the step of an operation, by its number, with this result
-abbrev pub Played : ℕ → ℕ → ℕ → Bytes → Bytes → ControllerSide → ControllerSide → Type 0
+abbrev pub Played : ℕ → ℕ → ℕ → Bytes → Bytes → Sending → Sending → Type 0
 Played zero answer count before after old new = TriedTurn answer count before after old new
 Played (suc zero) answer count before after old new = Turned answer old new
 Played _ answer count before after old new = answer ≡ 4294967295

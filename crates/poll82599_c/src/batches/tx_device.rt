@@ -1,63 +1,99 @@
 //! The device of a transmit queue: its controller, and the ring that it shares.
-ghost use Rattle.std.specs.Prelude.{◌≡◌, ◌<◌, IfErr, IfOk, length};
-ghost use Rattle.poll82599_c.specs.batches.Transmitting.{CopiedFirst, IsBeyond, TriedTurn, Turned};
+ghost use Rattle.std.specs.Prelude.{◌≡◌, ◌⊎◌, ◌∷◌, ◌++◌, [], ◌<◌, drop, length};
+ghost use Rattle.poll82599_c.specs.batches.Transmitting.{Sending, TriedTurn, Turned};
 
 use crate::batches::found::Found;
 use crate::half::Half;
 use controller::{Turn, TxController, Wire};
 use ffi_handle::overwrite;
-use limits::MOST_FRAME;
 use std::alloc::Global;
+use std::marker::Model;
 use tx_ring::TxRing;
 
-/// The device of a transmit queue, which one thread owns.
-pub(crate) type TxDevice = Half<TxRing, TxController>;
+/// A transmit queue's controller, and the wire on which the frame waits that was sent last and is not handed out.
+#[derive(Drop)]
+pub struct Sender {
+    controller: TxController,
+    wire: Wire,
+}
 
-impl Half<TxRing, TxController> {
-    /// Sends the next frame into `room`, at least 15,000 bytes, and reports it if it asks for a report. Returns 1 and
-    /// its length: sent; 0: none is ready; 3: the queue is off; 4: `room` is too small; 5: memory was refused; 6 and
-    /// its length: sent, but longer than `room`, which is unchanged. Only 1 and 6 send anything.
-    pub(crate) fn turn(&mut self, alloc: Global, room: &mut [u8]) -> Found
-        ensures own { self.new.table ≡ self.old.table }
+impl Model for Sender {
+    ghost use Rattle.std.specs.Prelude.{◌≤◌, length};
+    ghost use Rattle.poll82599_c.specs.batches.Transmitting.{Sending};
+
+    ghost Value = { Sending };
+
+    ghost view = { λ s. record { end = s.controller; waiting = s.wire } };
+
+    ghost invariant = { λ s. length s.wire ≤ 1 };
+}
+
+/// The device of a transmit queue, which one thread owns.
+pub(crate) type TxDevice = Half<TxRing, Sender>;
+
+impl Sender {
+    /// Adds a wire to a controller. No frame waits. Allocates nothing.
+    pub(crate) fn new(alloc: Global, controller: TxController) -> Sender
+        ensures { result ≡ record { end = controller; waiting = [] } }
+    {
+        Sender {
+            controller,
+            wire: Wire::new(alloc),
+        }
+    }
+
+    /// Returns the controller. The frame that waits is dropped.
+    pub(crate) fn into_controller(self) -> TxController
+        ensures { result ≡ self.end }
+    {
+        self.controller
+    }
+
+    /// Copies the frame that waits to the beginning of `room`, and removes it from the wire. Returns 1 and its length, or 4
+    /// and its length if it is longer than `room`; then it waits on.
+    fn hand_out(&mut self, room: &mut [u8]) -> Found
+        requires waits { 0 < length self.old.waiting }
+        ensures end { self.new.end ≡ self.old.end }
+        ensures copied { result.answer ≡ 1 → (self.new.waiting ≡ []) × ((frame : _) → self.old.waiting ≡ frame ∷ [] → (result.count ≡ length frame) × (room.new ≡ frame ++ drop (length frame) room.old)) }
+        ensures kept { result.answer ≡ 4 → (self.new.waiting ≡ self.old.waiting) × (room.new ≡ room.old) × ((frame : _) → self.old.waiting ≡ frame ∷ [] → (result.count ≡ length frame) × (length room.old < length frame)) }
+        ensures answers { (result.answer ≡ 1) ⊎ (result.answer ≡ 4) }
+    {
+        let frame = self.wire.frame(0);
+        let count = frame.len();
+        if room.len() < count {
+            return Found { answer: 4, count };
+        }
+        overwrite(room, frame);
+        self.wire.clear();
+        Found { answer: 1, count }
+    }
+}
+
+impl Half<TxRing, Sender> {
+    /// Sends the next frame, unless one waits, and reports it if it asks for a report. Then copies the frame into `room`.
+    /// Returns 1 and its length: it is there; 0: none is ready; 3: the queue is off; 4 and its length: it is longer than
+    /// `room`, and waits for the next call; 5: memory was refused.
+    pub(crate) fn turn(&mut self, room: &mut [u8]) -> Found
+        ensures own { self.new.end.table ≡ self.old.end.table }
         ensures step { TriedTurn result.answer result.count room.old room.new self.old self.new }
     {
-        if room.len() < MOST_FRAME {
-            return Found::nothing(4);
+        if self.end.wire.is_empty() {
+            match self.end.controller.turn(&self.ring, &mut self.end.wire) {
+                Ok(Turn::Sent) => {}
+                Ok(Turn::Idle) => return Found::nothing(0),
+                Ok(Turn::Off) => return Found::nothing(3),
+                Err(_) => return Found::nothing(5),
+            }
         }
-        let mut wire = Wire::new(alloc);
-        match self.end.turn(&self.ring, &mut wire) {
-            Ok(Turn::Sent) => match copied(&wire, room) {
-                Ok(count) => Found { answer: 1, count },
-                Err(count) => Found { answer: 6, count },
-            },
-            Ok(Turn::Idle) => Found::nothing(0),
-            Ok(Turn::Off) => Found::nothing(3),
-            Err(_) => Found::nothing(5),
-        }
+        self.end.hand_out(room)
     }
 
     /// Loads the control word, and answers a request if it can. Returns the word that it stored, otherwise the one that
     /// it loaded: 0 off, 1 enabling asked for, 2 on, 3 disabling asked for.
     pub(crate) fn turn_control(&mut self) -> u32
-        ensures own { self.new.table ≡ self.old.table }
+        ensures own { self.new.end.table ≡ self.old.end.table }
         ensures step { Turned result self.old self.new }
     {
-        u32::from(self.end.turn_control(&self.ring).word())
+        u32::from(self.end.controller.turn_control(&self.ring).word())
     }
-}
-
-/// Copies the first frame of a wire to the beginning of `room`. Returns its length, as an error if the frame is longer
-/// than `room`.
-fn copied(wire: &Wire, room: &mut [u8]) -> Result<usize, usize>
-    requires { 0 < length wire.now }
-    ensures copied { IfOk result (λ n. CopiedFirst n wire.now room.old room.new) }
-    ensures beyond { IfErr result (λ n. IsBeyond n wire.now room.old) }
-    ensures kept { IfErr result (λ n. room.new ≡ room.old) }
-{
-    let frame = wire.frame(0);
-    if room.len() < frame.len() {
-        return Err(frame.len());
-    }
-    overwrite(room, frame);
-    Ok(frame.len())
 }

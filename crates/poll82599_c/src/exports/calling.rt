@@ -5,7 +5,7 @@
 //! another kind; nothing changes. A handle is in one call at a time.
 ghost use Rattle.std.specs.Prelude.{◌≡◌, ◌≢◌, ◌<◌, ◌⊎◌, None};
 ghost use Rattle.ffi_handle.specs.Words.{is_set};
-ghost use Rattle.poll82599_c.specs.Handles.{as_packets, as_rx_controller, as_rx_device, as_rx_driver, as_rx_queue, as_tx_controller, as_tx_device, as_tx_driver, as_tx_queue};
+ghost use Rattle.poll82599_c.specs.Handles.{as_packets, as_rx_controller, as_rx_device, as_rx_driver, as_rx_queue, as_sender, as_tx_controller, as_tx_device, as_tx_driver, as_tx_queue};
 ghost use Rattle.poll82599_c.specs.Held.{Among, Between};
 ghost use Rattle.poll82599_c.specs.batches.Packets.{Handled, TriedPut};
 ghost use Rattle.poll82599_c.specs.batches.Queues.{SameQueue};
@@ -396,8 +396,8 @@ pub extern "C" fn poll82599_rx_device_do(
 }
 
 /// Steps a transmit queue's device. The device's thread calls it. The operations:
-/// - 0 sends the next frame into `room`, with its length in `count`. 0: none is ready; 3: the queue is off; 4: `room`
-///   is below 15,000; 5: memory was refused; 6: it was sent, but is longer than `room`.
+/// - 0 sends the next frame into `room`, with its length in `count`. 0: none is ready; 3: the queue is off; 4: it was
+///   sent, and waits because it is longer than `room`: then the next call hands it out; 5: memory was refused.
 /// - 1 loads the control word and answers a request if it can. Returns the word, 0 to 3.
 #[unsafe(no_mangle)]
 pub extern "C" fn poll82599_tx_device_do(
@@ -408,7 +408,7 @@ pub extern "C" fn poll82599_tx_device_do(
 )
     ensures other { as_tx_device device.old.held ≡ None → (call.new.answer ≡ 4294967295) × (device.new.held ≡ device.old.held) × (room.new ≡ room.old) }
     ensures own { tx_queue.SameDevice (as_tx_device device.old.held) (as_tx_device device.new.held) }
-    ensures step { Between (tx_queue.Played call.old.operation call.new.answer call.new.count room.old room.new) (as_tx_device device.old.held) (as_tx_device device.new.held) }
+    ensures step { Between (tx_queue.Played call.old.operation call.new.answer call.new.count room.old room.new) (as_sender device.old.held) (as_sender device.new.held) }
     ensures room { (call.old.operation ≢ 0) → room.new ≡ room.old }
     ensures kept { (1 < call.old.operation) → device.new.held ≡ device.old.held }
 {
@@ -419,7 +419,7 @@ pub extern "C" fn poll82599_tx_device_do(
     call.answer = match &mut *end {
         End::TxDevice(serving) => match call.operation {
             0 => {
-                let found = serving.turn(alloc, room);
+                let found = serving.turn(room);
                 call.count = found.count;
                 found.answer
             }

@@ -230,13 +230,14 @@ fn rx_queue_closed(queue: RxQueue, device: RxDevice) -> i64
 
 /// Closes a transmit queue by its driver and its device.
 fn tx_queue_closed(queue: TxQueue, device: TxDevice) -> i64
-    requires { queue.end.table ≡ device.table }
-    ensures lawful { tx_queue.AreLawful (Some queue) (Some device) }
-    ensures told { tx_queue.AreTold (Some queue) (Some device) }
+    requires { queue.end.table ≡ device.end.table }
+    ensures lawful { tx_queue.AreLawful (Some queue) (Some device.end) }
+    ensures told { tx_queue.AreTold (Some queue) (Some device.end) }
     ensures closed { result ≢ negsuc 1 }
 {
     let driving = Half::of(queue.ring, queue.end.into_end());
-    let serving = Half::of(device.ring, device.end.into_end());
+    let controller = device.end.into_controller();
+    let serving = Half::of(device.ring, controller.into_end());
     tx_close(driving, serving)
 }
 

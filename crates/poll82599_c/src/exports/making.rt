@@ -1,10 +1,11 @@
 //! The exports that make a ring, a queue or a worker's packets. Any thread may call them.
-ghost use Rattle.std.specs.Prelude.{◌≡◌, ◌≢◌, ◌<◌, ◌⊎◌, pos};
+ghost use Rattle.std.specs.Prelude.{◌≡◌, ◌≢◌, ◌<◌, ◌⊎◌, [], pos};
 ghost use Rattle.limits.specs.RingLength.{IsRingLength};
 ghost use Rattle.limits.specs.FillSize.{IsFillSize};
 ghost use Rattle.ring_model.specs.declared.states.Completion.TheVariants as by;
 ghost use Rattle.ffi_handle.specs.Words.{is_set};
-ghost use Rattle.poll82599_c.specs.Handles.{as_packets, as_rx_controller, as_rx_device, as_rx_driver, as_rx_queue, as_tx_controller, as_tx_device, as_tx_driver, as_tx_queue};
+ghost use Rattle.poll82599_c.specs.Handles.{as_packets, as_rx_controller, as_rx_device, as_rx_driver, as_rx_queue, as_sender, as_tx_controller, as_tx_device, as_tx_driver, as_tx_queue};
+ghost use Rattle.poll82599_c.specs.Held.{There};
 ghost use Rattle.poll82599_c.specs.batches.Packets.{IsMade};
 ghost use Rattle.poll82599_c.specs.batches.Receiving as rx_queue;
 ghost use Rattle.poll82599_c.specs.batches.Transmitting as tx_queue;
@@ -106,6 +107,7 @@ pub extern "C" fn poll82599_tx_queue_new(
 ) -> i32
     ensures status { (result ≡ pos 0) → (by_head ≡ 0) → tx_queue.AreMade descriptors every by.Status (as_tx_queue queue.new.held) (as_tx_device device.new.held) }
     ensures head { (result ≡ pos 0) → (by_head ≢ 0) → tx_queue.AreMade descriptors every by.Head (as_tx_queue queue.new.held) (as_tx_device device.new.held) }
+    ensures none_waits { (result ≡ pos 0) → There (λ s. s.waiting ≡ []) (as_sender device.new.held) }
     ensures length { (result ≡ pos 1) → ¬ IsRingLength descriptors }
     ensures settings { (result ≡ pos 4) → (every ≡ 0) ⊎ (4096 < every) }
     ensures buffers { result ≢ pos 3 }

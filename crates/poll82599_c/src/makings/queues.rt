@@ -1,11 +1,13 @@
 //! The driver and the device of a new queue.
-ghost use Rattle.std.specs.Prelude.{◌≡◌, ◌≢◌, ◌<◌, ◌⊎◌, Some, IfErr, IfOk};
+ghost use Rattle.std.specs.Prelude.{◌≡◌, ◌≢◌, ◌<◌, ◌⊎◌, Some, [], IfErr, IfOk};
 ghost use Rattle.limits.specs.RingLength.{IsRingLength};
 ghost use Rattle.limits.specs.FillSize.{IsFillSize};
-ghost use Rattle.poll82599_c.specs.Handles.{as_rx_device, as_rx_queue, as_tx_device, as_tx_queue};
+ghost use Rattle.poll82599_c.specs.Handles.{as_rx_device, as_rx_queue, as_sender, as_tx_device, as_tx_queue};
+ghost use Rattle.poll82599_c.specs.Held.{There};
 ghost use Rattle.poll82599_c.specs.batches.Receiving as rx_queue;
 ghost use Rattle.poll82599_c.specs.batches.Transmitting as tx_queue;
 
+use crate::batches::Sender;
 use crate::end::End;
 use crate::half::Half;
 use crate::makings::{Unmade, both_boxed, rx_halves, tx_halves};
@@ -47,6 +49,7 @@ pub(crate) fn tx_queue(
     completion: Completion,
 ) -> Result<(Box<End>, Box<End>), Unmade>
     ensures made { IfOk result (λ r. tx_queue.AreMade ring every completion (as_tx_queue (Some r.0.value)) (as_tx_device (Some r.1.value))) }
+    ensures none_waits { IfOk result (λ r. There (λ s. s.waiting ≡ []) (as_sender (Some r.1.value))) }
     ensures length { IfErr result (λ e. e ≡ Unmade.Length → ¬ IsRingLength ring) }
     ensures settings { IfErr result (λ e. e ≡ Unmade.Settings → (every ≡ 0) ⊎ (4096 < every)) }
     ensures refusals { IfErr result (λ e. e ≢ Unmade.Buffers) }
@@ -56,6 +59,7 @@ pub(crate) fn tx_queue(
     }
     let (driver, controller) = tx_halves(alloc, ring, completion)?;
     let queue = Half::of(driver.ring, TxDriver::new(driver.end, every));
-    let device = Half::of(controller.ring, TxController::new(controller.end));
+    let serving = Sender::new(alloc, TxController::new(controller.end));
+    let device = Half::of(controller.ring, serving);
     both_boxed(alloc, End::TxQueue(queue), End::TxDevice(device))
 }
