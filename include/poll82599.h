@@ -400,6 +400,7 @@ struct poll82599_batch {
     uint32_t operation;
     uint32_t answer;
     size_t count;
+    size_t buffers; /* of ..._queue_move: how many empty buffers the worker gave to the ring, or got back from it */
 };
 
 /* The operation on one of a worker's packets. */
@@ -543,7 +544,7 @@ static inline size_t poll82599_packets_count(struct poll82599_packets *packets, 
 
 static inline uint32_t poll82599_rx_queue_step(struct poll82599_rx_queue *queue, uint32_t operation, size_t *count)
 {
-    struct poll82599_batch call = {operation, 0, 0};
+    struct poll82599_batch call = {operation, 0, 0, 0};
     poll82599_rx_queue_do(queue, &call);
     if (count)
         *count = call.count;
@@ -552,13 +553,15 @@ static inline uint32_t poll82599_rx_queue_step(struct poll82599_rx_queue *queue,
 
 /* Takes the packets that are complete, up to a batch of them and as many as the worker has room for, and appends them to the worker's.
  * Posts as many empty buffers of the worker as fit, and stores RDT once if it posted any; after ..._disable it posts nothing. The first
- * batch of a queue that is on takes nothing and posts the first buffers. Returns 1: done, and `*count` packets were taken, which may be
- * 0; 0: the queue was not seen on, or was seen off. */
-static inline uint32_t poll82599_rx_batch(struct poll82599_rx_queue *queue, struct poll82599_packets *packets, size_t *count)
+ * batch of a queue that is on takes nothing and posts the first buffers. Returns 1: done, `*count` packets were taken, and `*posted`
+ * buffers were posted, for which a device may wait; both may be 0; 0: the queue was not seen on, or was seen off. `posted` may be null. */
+static inline uint32_t poll82599_rx_batch(struct poll82599_rx_queue *queue, struct poll82599_packets *packets, size_t *count, size_t *posted)
 {
-    struct poll82599_batch call = {POLL82599_RX_QUEUE_BATCH, 0, 0};
+    struct poll82599_batch call = {POLL82599_RX_QUEUE_BATCH, 0, 0, 0};
     poll82599_rx_queue_move(queue, packets, &call);
     *count = call.count;
+    if (posted)
+        *posted = call.buffers;
     return call.answer;
 }
 
@@ -578,7 +581,7 @@ static inline uint32_t poll82599_rx_queue_finish(struct poll82599_rx_queue *queu
  * room for 256, and some are left; 2: no disabling was seen answered. */
 static inline uint32_t poll82599_rx_queue_reclaim(struct poll82599_rx_queue *queue, struct poll82599_packets *packets, size_t *count)
 {
-    struct poll82599_batch call = {POLL82599_RX_QUEUE_RECLAIM, 0, 0};
+    struct poll82599_batch call = {POLL82599_RX_QUEUE_RECLAIM, 0, 0, 0};
     poll82599_rx_queue_move(queue, packets, &call);
     *count = call.count;
     return call.answer;
@@ -593,7 +596,7 @@ static inline uint32_t poll82599_rx_queue_is_quiet(struct poll82599_rx_queue *qu
 
 static inline uint32_t poll82599_tx_queue_step(struct poll82599_tx_queue *queue, uint32_t operation, size_t *count)
 {
-    struct poll82599_batch call = {operation, 0, 0};
+    struct poll82599_batch call = {operation, 0, 0, 0};
     poll82599_tx_queue_do(queue, &call);
     if (count)
         *count = call.count;
@@ -602,7 +605,7 @@ static inline uint32_t poll82599_tx_queue_step(struct poll82599_tx_queue *queue,
 
 static inline uint32_t poll82599_tx_queue_with(struct poll82599_tx_queue *queue, struct poll82599_packets *packets, uint32_t operation, size_t *count)
 {
-    struct poll82599_batch call = {operation, 0, 0};
+    struct poll82599_batch call = {operation, 0, 0, 0};
     poll82599_tx_queue_move(queue, packets, &call);
     *count = call.count;
     return call.answer;
@@ -611,8 +614,17 @@ static inline uint32_t poll82599_tx_queue_with(struct poll82599_tx_queue *queue,
 /* Takes back the buffers of reported frames as empty ones of the worker. Posts the worker's packets from the oldest on as long as they
  * fit, the last one with a request for a report, and stores TDT once if it posted any; after ..._disable it posts nothing. Returns 1:
  * done, and `*count` packets were posted and belong to the queue; 0: the queue was not seen on, or was seen off; 3: the oldest
- * packet has at least as many segments as the ring has descriptors, and all packets stay. */
-static inline uint32_t poll82599_tx_batch(struct poll82599_tx_queue *queue, struct poll82599_packets *packets, size_t *count) { return poll82599_tx_queue_with(queue, packets, POLL82599_TX_QUEUE_BATCH, count); }
+ * packet has at least as many segments as the ring has descriptors, and all packets stay. With 1 and 3, `*cleaned` buffers came back;
+ * `cleaned` may be null. */
+static inline uint32_t poll82599_tx_batch(struct poll82599_tx_queue *queue, struct poll82599_packets *packets, size_t *count, size_t *cleaned)
+{
+    struct poll82599_batch call = {POLL82599_TX_QUEUE_BATCH, 0, 0, 0};
+    poll82599_tx_queue_move(queue, packets, &call);
+    *count = call.count;
+    if (cleaned)
+        *cleaned = call.buffers;
+    return call.answer;
+}
 
 /* Takes back the buffers of reported frames as empty ones of the worker. Returns 1: done, `*count` buffers; 0: as above. */
 static inline uint32_t poll82599_tx_queue_clean(struct poll82599_tx_queue *queue, struct poll82599_packets *packets, size_t *count) { return poll82599_tx_queue_with(queue, packets, POLL82599_TX_QUEUE_CLEAN, count); }
@@ -667,7 +679,7 @@ static inline struct poll82599_offered poll82599_rx_device_counts(struct poll825
  * frame out if it has room for it. */
 static inline uint32_t poll82599_turn(struct poll82599_tx_device *device, uint8_t *bytes, size_t room, size_t *len)
 {
-    struct poll82599_batch call = {POLL82599_TX_DEVICE_TURN, 0, 0};
+    struct poll82599_batch call = {POLL82599_TX_DEVICE_TURN, 0, 0, 0};
     poll82599_tx_device_do(device, &call, bytes, room);
     *len = call.count;
     return call.answer;
@@ -677,7 +689,7 @@ static inline uint32_t poll82599_turn(struct poll82599_tx_device *device, uint8_
 static inline uint32_t poll82599_tx_device_control(struct poll82599_tx_device *device)
 {
     uint8_t none = 0;
-    struct poll82599_batch call = {POLL82599_TX_DEVICE_CONTROL, 0, 0};
+    struct poll82599_batch call = {POLL82599_TX_DEVICE_CONTROL, 0, 0, 0};
     poll82599_tx_device_do(device, &call, &none, 0);
     return call.answer;
 }

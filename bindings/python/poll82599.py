@@ -42,7 +42,7 @@ class _Call(Structure):
 
 
 class _Batch(Structure):
-    _fields_ = [("operation", c_uint32), ("answer", c_uint32), ("count", c_size_t)]
+    _fields_ = [("operation", c_uint32), ("answer", c_uint32), ("count", c_size_t), ("buffers", c_size_t)]
 
 
 class _Packet(Structure):
@@ -328,8 +328,10 @@ class _Queue:
         return _done(self._step(3).answer)
 
     def batch(self, packets):
-        """Takes packets and posts empty buffers, or posts packets. Returns how many packets it took or posted."""
+        """Takes packets and posts empty buffers, or takes reported buffers back and posts packets. Returns how many packets it took
+        or posted; `moved` is then how many empty buffers were posted or came back."""
         call = self._moved(0, packets)
+        self.moved = call.buffers
         if not _done(call.answer, _3="too long"):
             raise Refused("not on")
         return call.count

@@ -19,7 +19,7 @@ static struct poll82599_rx_device rx_device;
 static struct poll82599_tx_queue tx;
 static struct poll82599_tx_device tx_device;
 static uint8_t frame[POLL82599_MOST_FRAME + 1], got[POLL82599_MOST_FRAME];
-static size_t count, len, empty;
+static size_t count, moved, len, empty;
 static uint8_t byte;
 
 /* Calls with empty handles, at the start and after everything is closed. */
@@ -27,10 +27,10 @@ static void use_empty_handles(void)
 {
     expect("put a packet, empty packets", poll82599_packets_put(&packets, frame, 60), POLL82599_NO_END);
     expect("count, empty packets", poll82599_packets_count(&packets, NULL) == SIZE_MAX, 1);
-    expect("receive a batch, empty queue", poll82599_rx_batch(&rx, &packets, &count), POLL82599_NO_END);
+    expect("receive a batch, empty queue", poll82599_rx_batch(&rx, &packets, &count, &moved), POLL82599_NO_END);
     expect("enable, empty receive queue", poll82599_rx_queue_enable(&rx), POLL82599_NO_END);
     expect("offer, empty device", poll82599_offer(&rx_device, frame, 60), POLL82599_NO_END);
-    expect("post a batch, empty queue", poll82599_tx_batch(&tx, &packets, &count), POLL82599_NO_END);
+    expect("post a batch, empty queue", poll82599_tx_batch(&tx, &packets, &count, &moved), POLL82599_NO_END);
     expect("renew, empty transmit queue", poll82599_tx_queue_renew(&tx), POLL82599_NO_END);
     expect("turn, empty device", poll82599_turn(&tx_device, got, sizeof got, &len), POLL82599_NO_END);
     expect("close an empty receive queue", poll82599_rx_queue_close(&rx, &rx_device), POLL82599_NOT_CLOSED);
@@ -42,7 +42,7 @@ static void use_empty_handles(void)
 static void mix_handles(void)
 {
     struct poll82599_packets none = {0};
-    expect("receive a batch into empty packets", poll82599_rx_batch(&rx, &none, &count), POLL82599_NO_END);
+    expect("receive a batch into empty packets", poll82599_rx_batch(&rx, &none, &count, NULL), POLL82599_NO_END);
     expect("offer, transmit device cast to a receive device", poll82599_offer((struct poll82599_rx_device *)&tx_device, frame, 60), POLL82599_NO_END);
     expect("close a receive queue with a transmit device", poll82599_rx_queue_close(&rx, (struct poll82599_rx_device *)&tx_device), POLL82599_NOT_CLOSED);
     expect("close a transmit device cast to packets", poll82599_packets_close((struct poll82599_packets *)&tx_device) == SIZE_MAX, 1);
@@ -86,7 +86,7 @@ static void hold_packets(void)
 
 static void receive(void)
 {
-    expect("batch, disabled queue", poll82599_rx_batch(&rx, &packets, &count), 0);
+    expect("batch, disabled queue", poll82599_rx_batch(&rx, &packets, &count, &moved), 0);
     expect("disable, disabled queue", poll82599_rx_queue_disable(&rx), 0);
     expect("reclaim, disabled queue", poll82599_rx_queue_reclaim(&rx, &packets, &count), 2);
     expect("offer, disabled queue", poll82599_offer(&rx_device, frame, 60), 3);
@@ -94,16 +94,18 @@ static void receive(void)
     expect("the device answers", poll82599_rx_device_control(&rx_device), POLL82599_ON);
     expect("the driver sees the answer", poll82599_rx_queue_enable(&rx), 1);
     expect("offer, no buffer posted", poll82599_offer(&rx_device, frame, 60), 0);
-    expect("batch", poll82599_rx_batch(&rx, &packets, &count), 1);
+    expect("batch", poll82599_rx_batch(&rx, &packets, &count, &moved), 1);
     expect("packets of the batch", (long long)count, 0);
+    expect("buffers posted by the batch", (long long)moved, 7);
     expect("offer 13 bytes", poll82599_offer(&rx_device, frame, 13), 2);
     expect("offer 8,000 bytes, 8 descriptors of 1,024", poll82599_offer(&rx_device, frame, 8000), 4);
     expect("offer 3,000 bytes", poll82599_offer(&rx_device, frame, 3000), 1);
     expect("finish", poll82599_rx_device_finish(&rx_device), 1);
     expect("finish again", poll82599_rx_device_finish(&rx_device), 0);
     expect("the queue is quiet", poll82599_rx_queue_is_quiet(&rx), 1);
-    expect("batch", poll82599_rx_batch(&rx, &packets, &count), 1);
+    expect("batch", poll82599_rx_batch(&rx, &packets, &count, &moved), 1);
     expect("packets of the batch", (long long)count, 1);
+    expect("buffers posted by the batch", (long long)moved, 3);
     expect("copy", poll82599_packet_copy(&packets, 1, got, sizeof got, &len), 1);
     expect("the bytes differ", len != 3000 || memcmp(got, frame, 3000) != 0, 0);
     struct poll82599_offered counts = poll82599_rx_device_counts(&rx_device);
@@ -114,15 +116,16 @@ static void receive(void)
 
 static void transmit(void)
 {
-    expect("batch, disabled queue", poll82599_tx_batch(&tx, &packets, &count), 0);
+    expect("batch, disabled queue", poll82599_tx_batch(&tx, &packets, &count, &moved), 0);
     expect("clean, disabled queue", poll82599_tx_queue_clean(&tx, &packets, &count), 0);
     expect("turn, disabled queue", poll82599_turn(&tx_device, got, sizeof got, &len), 3);
     expect("ask for the queue to be enabled", poll82599_tx_queue_enable(&tx), 0);
     expect("the device answers", poll82599_tx_device_control(&tx_device), POLL82599_ON);
     expect("the driver sees the answer", poll82599_tx_queue_enable(&tx), 1);
     expect("turn, nothing posted", poll82599_turn(&tx_device, got, sizeof got, &len), 0);
-    expect("batch", poll82599_tx_batch(&tx, &packets, &count), 1);
+    expect("batch", poll82599_tx_batch(&tx, &packets, &count, &moved), 1);
     expect("packets of the batch", (long long)count, 2);
+    expect("buffers cleaned by the batch", (long long)moved, 0);
     expect("turn, room of 4,999 bytes", poll82599_turn(&tx_device, got, 4999, &len), 4);
     expect("length of the frame that waits", (long long)len, 5000);
     expect("turn, room of 5,000 bytes", poll82599_turn(&tx_device, got, 5000, &len), 1);

@@ -91,14 +91,14 @@ static size_t forward(void)
     static size_t waiting;
     size_t taken, posted;
     uint8_t byte;
-    if (poll82599_rx_batch(&rx, &packets, &taken) != 1)
+    if (poll82599_rx_batch(&rx, &packets, &taken, NULL) != 1)
         return 0;
     for (size_t packet = waiting; packet < waiting + taken; packet++) {
         poll82599_packet_byte(&packets, packet, 1, &byte);
         poll82599_packet_touch(&packets, packet, 1, (uint8_t)(byte + 1));
     }
     waiting += taken;
-    if (poll82599_tx_batch(&tx, &packets, &posted) != 1)
+    if (poll82599_tx_batch(&tx, &packets, &posted, NULL) != 1)
         return 0;
     waiting -= posted;
     return posted;

@@ -340,16 +340,17 @@ void driver_run(struct driver *driver, enum turn (*turn)(void *context), void *c
 
 size_t port_take(struct port *port, struct worker *worker)
 {
-    size_t count;
-    expect(ANSWER_1, "rx_batch", poll82599_rx_batch(&port->rx, &worker->packets, &count));
-    wake(&port->waker, ASLEEP_FOR_ROOM); /* even with no packet: the batch does not tell whether it posted buffers */
+    size_t count, posted;
+    expect(ANSWER_1, "rx_batch", poll82599_rx_batch(&port->rx, &worker->packets, &count, &posted));
+    if (posted)
+        wake(&port->waker, ASLEEP_FOR_ROOM);
     return count;
 }
 
 size_t port_post(struct port *port, struct worker *worker)
 {
     size_t count;
-    if (expect(ANSWER_1 | ANSWER_3, "tx_batch", poll82599_tx_batch(&port->tx, &worker->packets, &count)) == 3) {
+    if (expect(ANSWER_1 | ANSWER_3, "tx_batch", poll82599_tx_batch(&port->tx, &worker->packets, &count, NULL)) == 3) {
         if (!port->unposted++)
             refuse(port->link.name, "a packet is too long for the ring; further ones are only counted");
         worker_free(worker, 0);

@@ -81,6 +81,15 @@ pub struct Counts {
     pub oversize: u64,
 }
 
+/// What a batch moved.
+#[derive(Clone, Copy, Debug, PartialEq, Eq, Default)]
+pub struct Batched {
+    /// The packets that were taken or posted.
+    pub packets: usize,
+    /// The empty buffers that a receive batch posted, or that a transmit batch got back.
+    pub buffers: usize,
+}
+
 /// How far a reclaiming came.
 #[derive(Clone, Copy, Debug, PartialEq, Eq)]
 pub struct Reclaimed {
@@ -184,7 +193,7 @@ impl RxQueue {
     /// Makes a receive queue and its device. The queue is off.
     ///
     /// ```
-    /// use poll82599::{Offer, Packets, RxQueue, RxSettings, State};
+    /// use poll82599::{Batched, Offer, Packets, RxQueue, RxSettings, State};
     ///
     /// let settings = RxSettings { descriptors: 64, batch: 32, fill: 2048, drop_en: false };
     /// let (mut queue, mut device) = RxQueue::new(settings)?;
@@ -192,9 +201,9 @@ impl RxQueue {
     /// assert!(!queue.enable()?);
     /// assert_eq!(device.control(), State::On);
     /// assert!(queue.enable()?);
-    /// assert_eq!(queue.batch(&mut packets)?, 0); // posts the first buffers
+    /// assert_eq!(queue.batch(&mut packets)?, Batched { packets: 0, buffers: 63 }); // posts the first buffers
     /// assert_eq!(device.offer(&[7; 60])?, Offer::Stored);
-    /// assert_eq!(queue.batch(&mut packets)?, 1);
+    /// assert_eq!(queue.batch(&mut packets)?.packets, 1);
     /// assert_eq!(packets.byte(0, 59), Some(7));
     /// # Ok::<(), Box<dyn std::error::Error>>(())
     /// ```
@@ -215,12 +224,12 @@ impl RxQueue {
     }
 
     /// Takes the packets that are complete, up to a batch, and appends them to the worker's; posts as many empty buffers as fit.
-    /// Returns how many packets it took.
-    pub fn batch(&mut self, packets: &mut Packets) -> Result<usize, Refusal> {
-        match self.moved(packets, 0) {
-            (1, count) => Ok(count),
-            (0, _) => Err(Refusal::NotOn),
-            (other, _) => unanswered(other),
+    pub fn batch(&mut self, packets: &mut Packets) -> Result<Batched, Refusal> {
+        let call = self.moved(packets, 0);
+        match call.answer {
+            1 => Ok(Batched { packets: call.count, buffers: call.buffers }),
+            0 => Err(Refusal::NotOn),
+            other => unanswered(other),
         }
     }
 
@@ -229,11 +238,11 @@ impl RxQueue {
         is_done(self.step(4).0)
     }
 
-    fn moved(&mut self, packets: &mut Packets, operation: u32) -> (u32, usize) {
+    fn moved(&mut self, packets: &mut Packets, operation: u32) -> Batch {
         let mut call = Batch { operation, ..Batch::default() };
         // SAFETY: both handles are full, and only this call uses them.
         unsafe { ffi::poll82599_rx_queue_move(self.ends.driver(), packets.handle.get(), &mut call) };
-        (call.answer, call.count)
+        call
     }
 
     fn step(&mut self, operation: u32) -> (u32, usize) {
@@ -263,30 +272,31 @@ impl TxQueue {
         if Arc::ptr_eq(&queue.ends, &device.ends) { Ok(Ends::closed(queue.ends, device.ends)) } else { Err((queue, device)) }
     }
 
-    /// Takes back reported buffers, and posts the worker's packets, the oldest first, as long as they fit. Returns how many it
-    /// posted; they are no longer in the worker's list.
+    /// Takes back reported buffers, and posts the worker's packets, the oldest first, as long as they fit. The posted ones are no
+    /// longer in the worker's list.
     ///
     /// Returns `TooLong` if the oldest packet can never fit; only reported buffers came back then.
-    pub fn batch(&mut self, packets: &mut Packets) -> Result<usize, Refusal> {
-        match self.moved(packets, 0) {
-            (1, count) => Ok(count),
-            (0, _) => Err(Refusal::NotOn),
-            (3, _) => Err(Refusal::TooLong),
-            (other, _) => unanswered(other),
+    pub fn batch(&mut self, packets: &mut Packets) -> Result<Batched, Refusal> {
+        let call = self.moved(packets, 0);
+        match call.answer {
+            1 => Ok(Batched { packets: call.count, buffers: call.buffers }),
+            0 => Err(Refusal::NotOn),
+            3 => Err(Refusal::TooLong),
+            other => unanswered(other),
         }
     }
 
     /// Takes back reported buffers. Returns how many.
     pub fn clean(&mut self, packets: &mut Packets) -> Result<usize, Refusal> {
-        let (answer, count) = self.moved(packets, 1);
-        is_done(answer).then_some(count).ok_or(Refusal::NotOn)
+        let call = self.moved(packets, 1);
+        is_done(call.answer).then_some(call.count).ok_or(Refusal::NotOn)
     }
 
-    fn moved(&mut self, packets: &mut Packets, operation: u32) -> (u32, usize) {
+    fn moved(&mut self, packets: &mut Packets, operation: u32) -> Batch {
         let mut call = Batch { operation, ..Batch::default() };
         // SAFETY: both handles are full, and only this call uses them.
         unsafe { ffi::poll82599_tx_queue_move(self.ends.driver(), packets.handle.get(), &mut call) };
-        (call.answer, call.count)
+        call
     }
 
     fn step(&mut self, operation: u32) -> (u32, usize) {
@@ -326,9 +336,10 @@ macro_rules! queue_calls {
 
             /// Takes the buffers of a disabled queue back as empty ones of the worker.
             pub fn reclaim(&mut self, packets: &mut Packets) -> Result<Reclaimed, Refusal> {
-                match self.moved(packets, $reclaim) {
-                    (2, _) => Err(Refusal::NotDisabled),
-                    (answer, buffers) => Ok(Reclaimed { buffers, all: is_done(answer) }),
+                let call = self.moved(packets, $reclaim);
+                match call.answer {
+                    2 => Err(Refusal::NotDisabled),
+                    answer => Ok(Reclaimed { buffers: call.buffers, all: is_done(answer) }),
                 }
             }
 

@@ -37,6 +37,7 @@ pub struct Batch {
     pub operation: u32,
     pub answer: u32,
     pub count: usize,
+    pub buffers: usize,
 }
 
 /// `struct poll82599_packet`.

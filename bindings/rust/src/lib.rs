@@ -13,7 +13,7 @@ mod plain;
 mod results;
 mod rings;
 
-pub use batches::{Counts, Offer, Packets, Reclaimed, RxDevice, RxQueue, RxSettings, TxDevice, TxQueue, TxSettings};
+pub use batches::{Batched, Counts, Offer, Packets, Reclaimed, RxDevice, RxQueue, RxSettings, TxDevice, TxQueue, TxSettings};
 pub use plain::{DecodeError, Descriptor, Form, MovesError, OnceError, Plan, decode, encode, moves, once};
 pub use results::{MakeError, Refusal, State};
 pub use rings::{BUFFER_BYTES, Completion, MOST_FRAME, RxController, RxDriver, RxRing, Segment, TxController, TxDriver, TxRing};

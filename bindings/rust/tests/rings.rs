@@ -1,8 +1,8 @@
 //! Rings and queues between real threads, and what becomes of their ends.
 
 use poll82599::{
-    BUFFER_BYTES, Completion, Counts, MOST_FRAME, MakeError, Offer, Packets, Plan, Reclaimed, Refusal, RxController, RxDevice, RxDriver,
-    RxQueue, RxRing, RxSettings, State, TxDevice, TxQueue, TxRing, TxSettings, moves,
+    BUFFER_BYTES, Batched, Completion, Counts, MOST_FRAME, MakeError, Offer, Packets, Plan, Reclaimed, Refusal, RxController, RxDevice,
+    RxDriver, RxQueue, RxRing, RxSettings, State, TxDevice, TxQueue, TxRing, TxSettings, moves,
 };
 use std::thread::{self, yield_now};
 
@@ -91,12 +91,12 @@ fn forward_by_driver(rx: &mut RxQueue, tx: &mut TxQueue, packets: &mut Packets, 
     let mut posted = 0;
     while posted < frames as usize {
         let waiting = packets.len();
-        let taken = rx.batch(packets).expect("the queue is on");
+        let taken = rx.batch(packets).expect("the queue is on").packets;
         for packet in waiting..waiting + taken {
             let byte = packets.byte(packet, 1).expect("a frame has two bytes");
             assert!(packets.touch(packet, 1, byte.wrapping_add(1)));
         }
-        posted += tx.batch(packets).expect("the queue is on");
+        posted += tx.batch(packets).expect("the queue is on").packets;
     }
 }
 
@@ -126,7 +126,7 @@ fn a_disabled_queue_gives_its_buffers_back() {
     assert_eq!(device.control(), State::On);
     assert_eq!(queue.enable(), Ok(true));
     assert_eq!(device.offer(&frame(0)), Ok(Offer::Dropped));
-    assert_eq!(queue.batch(&mut packets), Ok(0));
+    assert_eq!(queue.batch(&mut packets), Ok(Batched { packets: 0, buffers: 7 }));
     assert_eq!(packets.empty_buffers(), 9);
     assert_eq!(device.offer(&[0; 8000]), Ok(Offer::Oversize));
     assert_eq!(device.offer(&[1; 3000]), Ok(Offer::Stored));

@@ -15,13 +15,14 @@ pub struct Poll82599Call {
 }
 
 /// A step of a queue, its result, and a count of packets taken or posted, buffers returned, segments left, or bytes
-/// sent.
+/// sent. A step that moves packets also counts the empty buffers that left the worker or came back.
 #[repr(C)]
 #[derive(Clone, Copy)]
 pub struct Poll82599Queue {
     pub operation: u32,
     pub answer: u32,
     pub count: usize,
+    pub buffers: usize,
 }
 
 /// A step on a worker's packets and its result: the packet's index and length in bytes, and a byte's index and value.

@@ -15,6 +15,10 @@ pub record Worked : Type 0 where
   pub stash : List ℕ
   pub packets : List (List Buffer)
 
+-- this many empty buffers left the worker, or came back to it
+abbrev pub MovedBuffers : ℕ → Worked → Worked → Type 0
+MovedBuffers count had has = (length had.stash ≡ count + length has.stash) ⊎ (length has.stash ≡ count + length had.stash)
+
 -- `count` buffers, and no packet
 pub record IsFresh (count : ℕ) (w : Worked) : Type 0 where
   pub buffers : AreBuffers count w.stash

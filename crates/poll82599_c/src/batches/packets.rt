@@ -47,6 +47,13 @@ impl Packets {
         }
     }
 
+    /// How many empty buffers left the worker, or came back to it, since it had this many.
+    pub(crate) fn moved_since(&self, had: usize) -> usize
+        ensures { (had ≡ result + length self.now.stash) ⊎ (length self.now.stash ≡ result + had) }
+    {
+        had.abs_diff(self.stash.len())
+    }
+
     /// Makes a packet of a frame and appends it. Returns 1: done; 0: there are 32 packets, or too few empty buffers; 2:
     /// the frame's length is not 14 to 15,000 bytes.
     pub(crate) fn put(&mut self, frame: &[u8]) -> u32

@@ -7,7 +7,7 @@ ghost use Rattle.std.specs.Prelude.{◌≡◌, ◌≢◌, ◌<◌, ◌⊎◌, No
 ghost use Rattle.ffi_handle.specs.Words.{is_set};
 ghost use Rattle.poll82599_c.specs.Handles.{as_packets, as_rx_controller, as_rx_device, as_rx_driver, as_rx_queue, as_sender, as_tx_controller, as_tx_device, as_tx_driver, as_tx_queue};
 ghost use Rattle.poll82599_c.specs.Held.{Among, Between};
-ghost use Rattle.poll82599_c.specs.batches.Packets.{Handled, TriedPut};
+ghost use Rattle.poll82599_c.specs.batches.Packets.{Handled, MovedBuffers, TriedPut};
 ghost use Rattle.poll82599_c.specs.batches.Queues.{SameQueue};
 ghost use Rattle.poll82599_c.specs.batches.Receiving.{receiver};
 ghost use Rattle.poll82599_c.specs.batches.Receiving as rx_queue;
@@ -206,8 +206,8 @@ pub extern "C" fn poll82599_tx_serve(
     controller.put(held);
 }
 
-/// Moves buffers between a receive queue and a worker, and counts them in `count`. The driver's thread calls it. The
-/// operations:
+/// Moves buffers between a receive queue and a worker, counts in `count`, and in `buffers` the empty buffers that were
+/// posted or came back. The driver's thread calls it. The operations:
 /// - 0 takes a batch of packets and posts empty buffers. 0: the queue was not seen on, or was seen off.
 /// - 1 takes the buffers of a disabled queue back into the stash. 0: the stash is full; 2: it was not seen disabled.
 #[unsafe(no_mangle)]
@@ -220,6 +220,7 @@ pub extern "C" fn poll82599_rx_queue_move(
     ensures other { (as_rx_queue queue.old.held ≡ None) ⊎ (as_packets packets.old.held ≡ None) → (call.new.answer ≡ 4294967295) × (queue.new.held ≡ queue.old.held) × (packets.new.held ≡ packets.old.held) }
     ensures own { SameQueue receiver (as_rx_queue queue.old.held) (as_rx_queue queue.new.held) }
     ensures step { Among (rx_queue.Moved call.old.operation call.new.answer call.new.count) (as_rx_queue queue.old.held) (as_packets packets.old.held) (as_rx_queue queue.new.held) (as_packets packets.new.held) }
+    ensures buffers { Among (λ _ had _ has. MovedBuffers call.new.buffers had has) (as_rx_queue queue.old.held) (as_packets packets.old.held) (as_rx_queue queue.new.held) (as_packets packets.new.held) }
     ensures kept { (1 < call.old.operation) → (queue.new.held ≡ queue.old.held) × (packets.new.held ≡ packets.old.held) }
 {
     let Some((mut end, mut worker)) = take_both(alloc, queue, packets) else {
@@ -227,11 +228,16 @@ pub extern "C" fn poll82599_rx_queue_move(
         return;
     };
     let found = match (&mut *end, &mut *worker) {
-        (End::RxQueue(receiving), End::Packets(held)) => match call.operation {
-            0 => receiving.batch(held),
-            1 => receiving.reclaim(held),
-            _ => Found::nothing(NO_OPERATION),
-        },
+        (End::RxQueue(receiving), End::Packets(held)) => {
+            let had = held.stash.len();
+            let found = match call.operation {
+                0 => receiving.batch(held),
+                1 => receiving.reclaim(held),
+                _ => Found::nothing(NO_OPERATION),
+            };
+            call.buffers = held.moved_since(had);
+            found
+        }
         _ => Found::nothing(NO_OPERATION),
     };
     call.answer = found.answer;
@@ -240,8 +246,8 @@ pub extern "C" fn poll82599_rx_queue_move(
     packets.put(worker);
 }
 
-/// Moves buffers between a worker and a transmit queue, and counts them in `count`. The driver's thread calls it. The
-/// operations:
+/// Moves buffers between a worker and a transmit queue, counts in `count`, and in `buffers` the empty buffers that came
+/// back. The driver's thread calls it. The operations:
 /// - 0 takes reported buffers back and posts packets. 0: the queue was not seen on, or was seen off; 3: the oldest
 ///   packet is too long.
 /// - 1 takes reported buffers back. 0: the queue was not seen on, or was seen off.
@@ -256,6 +262,7 @@ pub extern "C" fn poll82599_tx_queue_move(
     ensures other { (as_tx_queue queue.old.held ≡ None) ⊎ (as_packets packets.old.held ≡ None) → (call.new.answer ≡ 4294967295) × (queue.new.held ≡ queue.old.held) × (packets.new.held ≡ packets.old.held) }
     ensures own { SameQueue transmitter (as_tx_queue queue.old.held) (as_tx_queue queue.new.held) }
     ensures step { Among (tx_queue.Moved call.old.operation call.new.answer call.new.count) (as_tx_queue queue.old.held) (as_packets packets.old.held) (as_tx_queue queue.new.held) (as_packets packets.new.held) }
+    ensures buffers { Among (λ _ had _ has. MovedBuffers call.new.buffers had has) (as_tx_queue queue.old.held) (as_packets packets.old.held) (as_tx_queue queue.new.held) (as_packets packets.new.held) }
     ensures kept { (2 < call.old.operation) → (queue.new.held ≡ queue.old.held) × (packets.new.held ≡ packets.old.held) }
 {
     let Some((mut end, mut worker)) = take_both(alloc, queue, packets) else {
@@ -263,12 +270,17 @@ pub extern "C" fn poll82599_tx_queue_move(
         return;
     };
     let found = match (&mut *end, &mut *worker) {
-        (End::TxQueue(sending), End::Packets(held)) => match call.operation {
-            0 => sending.batch(held),
-            1 => sending.clean(held),
-            2 => sending.reclaim(held),
-            _ => Found::nothing(NO_OPERATION),
-        },
+        (End::TxQueue(sending), End::Packets(held)) => {
+            let had = held.stash.len();
+            let found = match call.operation {
+                0 => sending.batch(held),
+                1 => sending.clean(held),
+                2 => sending.reclaim(held),
+                _ => Found::nothing(NO_OPERATION),
+            };
+            call.buffers = held.moved_since(had);
+            found
+        }
         _ => Found::nothing(NO_OPERATION),
     };
     call.answer = found.answer;
