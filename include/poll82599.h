@@ -16,6 +16,12 @@
  * frames; the driver calls state until it returns POLL82599_OFF. Then untaken or unsent counts the segments that are left, reclaim
  * takes the buffers back one at a time until it returns 0, and renew makes the ring as new: off, with nothing posted.
  *
+ * No call sleeps or wakes anybody, but a program can. Each store of a descriptor or a register is sequentially consistent and is made
+ * before the call returns. So a thread may wake another, for example by an eventfd, after a call that made work for it: a device after
+ * poll82599_rx_batch posted buffers or poll82599_tx_batch posted packets, a driver after poll82599_offer or poll82599_turn returned 1.
+ * A thread that is about to sleep says so first, by a sequentially consistent store, and then looks once more. A device's thread calls
+ * ..._device_control for each of its queues in turn, because a driver that enables several may wait for any of them.
+ *
  * Results:
  * - poll82599_..._new, poll82599_decode, poll82599_encode, poll82599_moves and poll82599_once return 0 when it is done. Any other
  *   number is a refusal and leaves handles and bytes as they were.
@@ -444,7 +450,8 @@ enum poll82599_tx_queue_operation {
     POLL82599_TX_QUEUE_ENABLE = 0,
     POLL82599_TX_QUEUE_DISABLE = 1,
     POLL82599_TX_QUEUE_FINISH = 2,
-    POLL82599_TX_QUEUE_RENEW = 3
+    POLL82599_TX_QUEUE_RENEW = 3,
+    POLL82599_TX_QUEUE_OUTSTANDING = 4
 };
 enum poll82599_rx_device_operation {
     POLL82599_RX_DEVICE_OFFER = 0,
@@ -628,6 +635,10 @@ static inline uint32_t poll82599_tx_batch(struct poll82599_tx_queue *queue, stru
 
 /* Takes back the buffers of reported frames as empty ones of the worker. Returns 1: done, `*count` buffers; 0: as above. */
 static inline uint32_t poll82599_tx_queue_clean(struct poll82599_tx_queue *queue, struct poll82599_packets *packets, size_t *count) { return poll82599_tx_queue_with(queue, packets, POLL82599_TX_QUEUE_CLEAN, count); }
+
+/* Puts into `*count` how many segments were posted whose buffers have not come back. If there is none, all that was posted was sent, or was
+ * reclaimed. Returns 1. */
+static inline uint32_t poll82599_tx_queue_outstanding(struct poll82599_tx_queue *queue, size_t *count) { return poll82599_tx_queue_step(queue, POLL82599_TX_QUEUE_OUTSTANDING, count); }
 
 /* As the calls of a receive queue. `*left` is how many segments were posted and not sent. */
 static inline uint32_t poll82599_tx_queue_enable(struct poll82599_tx_queue *queue) { return poll82599_tx_queue_step(queue, POLL82599_TX_QUEUE_ENABLE, 0); }

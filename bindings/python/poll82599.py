@@ -362,6 +362,10 @@ class _RxQueue(_Queue):
 class _TxQueue(_Queue):
     _kind, _reclaim = "tx_queue", 2
 
+    def outstanding(self):
+        """How many segments were posted whose buffers have not come back."""
+        return self._step(4).count
+
     def clean(self, packets):
         call = self._moved(1, packets)
         if not _done(call.answer):

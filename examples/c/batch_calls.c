@@ -126,6 +126,8 @@ static void transmit(void)
     expect("batch", poll82599_tx_batch(&tx, &packets, &count, &moved), 1);
     expect("packets of the batch", (long long)count, 2);
     expect("buffers cleaned by the batch", (long long)moved, 0);
+    expect("ask how many segments are outstanding", poll82599_tx_queue_outstanding(&tx, &count), 1);
+    expect("outstanding segments", (long long)count, 6);
     expect("turn, room of 4,999 bytes", poll82599_turn(&tx_device, got, 4999, &len), 4);
     expect("length of the frame that waits", (long long)len, 5000);
     expect("turn, room of 5,000 bytes", poll82599_turn(&tx_device, got, 5000, &len), 1);
@@ -134,6 +136,7 @@ static void transmit(void)
     expect("the bytes differ", len != 3000 || memcmp(got, frame, 3000) != 0, 0);
     expect("clean", poll82599_tx_queue_clean(&tx, &packets, &count), 1);
     expect("buffers cleaned", (long long)count, 6);
+    expect("outstanding segments", (long long)(poll82599_tx_queue_outstanding(&tx, &count), count), 0);
 }
 
 static void stop(void)

@@ -286,6 +286,12 @@ impl TxQueue {
         }
     }
 
+    /// How many segments were posted whose buffers have not come back. If there is none, all that was posted was sent, or was
+    /// reclaimed.
+    pub fn outstanding(&mut self) -> usize {
+        self.step(4).1
+    }
+
     /// Takes back reported buffers. Returns how many.
     pub fn clean(&mut self, packets: &mut Packets) -> Result<usize, Refusal> {
         let call = self.moved(packets, 1);

@@ -8,7 +8,7 @@ use Rattle.ring_model.specs.transmit.Ring.{carried, number_of_posting}
 use Rattle.shared_ring.specs.declared.control.Control.{Control}
 use Rattle.shared_ring.specs.Words.{control_word}
 use Rattle.tx_ring.specs.Calls.{GoneOver}
-use Rattle.tx_ring.specs.Ends.{ControllerSide, driver_size, posted, sent}
+use Rattle.tx_ring.specs.Ends.{ControllerSide, driver_size, posted, returned, sent}
 use Rattle.tx_ring.specs.Form.{tx}
 use Rattle.tx_ring.specs.Meeting.{IsTold, MadeSeats, ledger_of, sent_now, told_left}
 use Rattle.driver.specs.Reclaiming.{CameBack}
@@ -103,9 +103,16 @@ Moved (suc zero) answer count old had new has = TriedCleaning answer count old h
 Moved (suc (suc zero)) answer count old had new has = TriedReclaim transmitter answer count old had new has
 Moved _ answer count old had new has = answer ≡ 4294967295
 
+-- 1, and `count` segments were posted that have not come back; nothing is done
+pub record IsOutstanding (answer count : ℕ) (old new : Transmitter) : Type 0 where
+  pub done : answer ≡ 1
+  pub counted : count + returned old.end ≡ length (posted old.end)
+  pub same : new ≡ old
+
 -- the step of an operation, by its number, with this result
 abbrev pub Did : ℕ → ℕ → ℕ → Transmitter → Transmitter → Type 0
-Did = DidAlike transmitter
+Did (suc (suc (suc (suc zero)))) answer count old new = IsOutstanding answer count old new
+Did operation answer count old new = DidAlike transmitter operation answer count old new
 
 -- ---- a device's calls
 

@@ -5,7 +5,7 @@ ghost use Rattle.shared_ring.specs.Ends.{driver_state};
 ghost use Rattle.poll82599_c.specs.batches.Queues.{AllCame, AskedDisable, FilledUp, directed, TriedDisable, TriedEnable, TriedEnabling, TriedFinish, TriedLeft, TriedReclaim, TriedRenewal};
 ghost use Rattle.poll82599_c.specs.batches.Receiving.{FoundQuiet, receiver};
 ghost use Rattle.poll82599_c.specs.batches.Receiving as rx;
-ghost use Rattle.poll82599_c.specs.batches.Transmitting.{TriedCleaning, transmitter};
+ghost use Rattle.poll82599_c.specs.batches.Transmitting.{IsOutstanding, TriedCleaning, transmitter};
 ghost use Rattle.poll82599_c.specs.batches.Transmitting as tx;
 
 use crate::batches::found::Found;
@@ -241,6 +241,14 @@ impl Half<TxRing, TxDriver> {
             return Found::nothing(0);
         }
         let count = self.end.clean(&self.ring, &mut packets.stash);
+        Found { answer: 1, count }
+    }
+
+    /// Returns 1, and how many posted segments have neither been cleaned nor reclaimed.
+    pub(crate) fn outstanding(&self) -> Found
+        ensures { IsOutstanding result.answer result.count self.now self.now }
+    {
+        let count = usize::from(self.end.at().out);
         Found { answer: 1, count }
     }
 }

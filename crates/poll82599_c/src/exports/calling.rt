@@ -331,7 +331,8 @@ pub extern "C" fn poll82599_rx_queue_do(
 }
 
 /// Steps a transmit queue's driver. The driver's thread calls it. The operations are 0 to 3 of
-/// [`poll82599_rx_queue_do`].
+/// [`poll82599_rx_queue_do`], and
+/// - 4 counts in `count` the segments that were posted and have not come back.
 #[unsafe(no_mangle)]
 pub extern "C" fn poll82599_tx_queue_do(
     alloc: Global,
@@ -357,6 +358,11 @@ pub extern "C" fn poll82599_tx_queue_do(
                 found.answer
             }
             3 => sending.renew(),
+            4 => {
+                let found = sending.outstanding();
+                call.count = found.count;
+                found.answer
+            }
             _ => NO_OPERATION,
         },
         _ => NO_OPERATION,
