@@ -6,3 +6,4 @@ pub mod Sendable
 pub mod Shaping
 pub mod Stashes
 pub mod Storing
+pub mod Turning

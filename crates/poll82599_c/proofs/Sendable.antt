@@ -15,6 +15,8 @@ use Rattle.shared_ring.proofs.ends.ControllerPlaces.TheSendSync as controller_pl
 use Rattle.shared_ring.proofs.ends.DriverPlaces.TheSendSync as driver_places
 use Rattle.std.proofs.Crossing.{crosses}
 use Rattle.std_heap.proofs.Global.TheSendSync as heap
+use Rattle.std.proofs.vec.Vec.TheSendSync as vec
+use Rattle.controller.proofs.wire.Wire.TheSendSync as wire
 use Rattle.controller.specs.contracts.receiving.RxController as RxController
 use Rattle.controller.specs.contracts.transmitting.TxController as TxController
 use Rattle.driver.specs.contracts.rx_driver.RxDriver as RxDriver
@@ -61,7 +63,7 @@ pub rx_queue : IsSend (Half.the_row RxRing.the_row RxDriver.the_row rx_ring.ghos
 rx_queue = search parts depth 60
 
 pub tx_device : IsSend (Half.the_row TxRing.the_row Sender.the_row tx_ring.ghosts tx_device_of.ghosts)
-tx_device = search parts depth 60
+tx_device = search (parts, vec.the_send, wire.the_send) depth 60 fits 20000
 
 pub tx_queue : IsSend (Half.the_row TxRing.the_row TxDriver.the_row tx_ring.ghosts tx_queue_of.ghosts)
 tx_queue = search parts depth 60

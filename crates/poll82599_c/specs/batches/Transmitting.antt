@@ -132,18 +132,18 @@ pub record SentWhole (frame : Bytes) (old new : ControllerSide) : Type 0 where
   pub frames_are : frames carried (sent new) ≡ frames carried (sent old) ++ frame ∷ []
 
 -- nothing is sent, because this frame was sent before and waits
-pub record Waited (frame : Bytes) (old new : Sending) : Type 0 where
+pub record Waited (frame : Bytes) (old : Sending) (new : ControllerSide) : Type 0 where
   pub waits : old.waiting ≡ frame ∷ []
-  pub same : new.end ≡ old.end
+  pub same : new ≡ old.end
 
 -- this frame is at hand: no frame waited and it was sent now, or it was sent before
-abbrev pub IsAtHand : Bytes → Sending → Sending → Type 0
-IsAtHand frame old new = ((old.waiting ≡ []) × SentWhole frame old.end new.end) ⊎ Waited frame old new
+abbrev pub IsAtHand : Bytes → Sending → ControllerSide → Type 0
+IsAtHand frame old new = ((old.waiting ≡ []) × SentWhole frame old.end new) ⊎ Waited frame old new
 
 -- the frame at hand is at the beginning of the room
 pub record HandedOut (len : ℕ) (before after : Bytes) (old new : Sending) : Type 0 where
   pub frame : Bytes
-  pub at_hand : IsAtHand frame old new
+  pub at_hand : IsAtHand frame old new.end
   pub len_is : len ≡ length frame
   pub copied : after ≡ frame ++ drop (length frame) before
   pub none_waits : new.waiting ≡ []
@@ -151,7 +151,7 @@ pub record HandedOut (len : ℕ) (before after : Bytes) (old new : Sending) : Ty
 -- the frame at hand is longer than the room, and waits
 pub record StillWaits (len : ℕ) (before after : Bytes) (old new : Sending) : Type 0 where
   pub frame : Bytes
-  pub at_hand : IsAtHand frame old new
+  pub at_hand : IsAtHand frame old new.end
   pub len_is : len ≡ length frame
   pub long : length before < length frame
   pub kept : after ≡ before

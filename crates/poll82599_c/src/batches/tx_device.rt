@@ -1,6 +1,7 @@
 //! The device of a transmit queue: its controller, and the ring that it shares.
-ghost use Rattle.std.specs.Prelude.{◌≡◌, ◌⊎◌, ◌∷◌, ◌++◌, [], ◌<◌, drop, length};
-ghost use Rattle.poll82599_c.specs.batches.Transmitting.{Sending, TriedTurn, Turned};
+ghost use Rattle.std.specs.Prelude.{◌≡◌, ◌∷◌, [], ◌<◌, length};
+ghost use Rattle.ring_model.specs.shared.Frames.{Bytes};
+ghost use Rattle.poll82599_c.specs.batches.Transmitting.{IsAtHand, Sending, TriedTurn, Turned};
 
 use crate::batches::found::Found;
 use crate::half::Half;
@@ -51,12 +52,11 @@ impl Sender {
 
     /// Copies the frame that waits to the beginning of `room`, and removes it from the wire. Returns 1 and its length, or 4
     /// and its length if it is longer than `room`; then it waits on.
+    #[tactic(auto, using(crate::proofs::Turning::only_frame))]
     fn hand_out(&mut self, room: &mut [u8]) -> Found
         requires waits { 0 < length self.old.waiting }
         ensures end { self.new.end ≡ self.old.end }
-        ensures copied { result.answer ≡ 1 → (self.new.waiting ≡ []) × ((frame : _) → self.old.waiting ≡ frame ∷ [] → (result.count ≡ length frame) × (room.new ≡ frame ++ drop (length frame) room.old)) }
-        ensures kept { result.answer ≡ 4 → (self.new.waiting ≡ self.old.waiting) × (room.new ≡ room.old) × ((frame : _) → self.old.waiting ≡ frame ∷ [] → (result.count ≡ length frame) × (length room.old < length frame)) }
-        ensures answers { (result.answer ≡ 1) ⊎ (result.answer ≡ 4) }
+        ensures step { (was : Sending) → ((frame : Bytes) → self.old.waiting ≡ frame ∷ [] → IsAtHand frame was self.old.end) → TriedTurn result.answer result.count room.old room.new was self.new }
     {
         let frame = self.wire.frame(0);
         let count = frame.len();
@@ -73,19 +73,20 @@ impl Half<TxRing, Sender> {
     /// Sends the next frame, unless one waits, and reports it if it asks for a report. Then copies the frame into `room`.
     /// Returns 1 and its length: it is there; 0: none is ready; 3: the queue is off; 4 and its length: it is longer than
     /// `room`, and waits for the next call; 5: memory was refused.
+    #[tactic(auto, using(crate::proofs::Turning::sent_whole, crate::proofs::Turning::one_frame))]
     pub(crate) fn turn(&mut self, room: &mut [u8]) -> Found
         ensures own { self.new.end.table ≡ self.old.end.table }
         ensures step { TriedTurn result.answer result.count room.old room.new self.old self.new }
     {
-        if self.end.wire.is_empty() {
-            match self.end.controller.turn(&self.ring, &mut self.end.wire) {
-                Ok(Turn::Sent) => {}
-                Ok(Turn::Idle) => return Found::nothing(0),
-                Ok(Turn::Off) => return Found::nothing(3),
-                Err(_) => return Found::nothing(5),
-            }
+        if !self.end.wire.is_empty() {
+            return self.end.hand_out(room);
         }
-        self.end.hand_out(room)
+        match self.end.controller.turn(&self.ring, &mut self.end.wire) {
+            Ok(Turn::Sent) => self.end.hand_out(room),
+            Ok(Turn::Idle) => Found::nothing(0),
+            Ok(Turn::Off) => Found::nothing(3),
+            Err(_) => Found::nothing(5),
+        }
     }
 
     /// Loads the control word, and answers a request if it can. Returns the word that it stored, otherwise the one that
