@@ -6,7 +6,7 @@ use Rattle.driver.specs.receive.Receiver.{Receiver}
 use Rattle.driver.specs.transmit.Transmitter.{Transmitter}
 use Rattle.controller.specs.Receiving.{Receiving}
 use Rattle.poll82599_c.specs.batches.Packets.{Worked}
-use Rattle.poll82599_c.specs.batches.Transmitting.{Sending}
+use Rattle.poll82599_c.specs.batches.Transmitting.{SendingDevice}
 use Rattle.poll82599_c.specs.declared.end.End.{End}
 use Rattle.poll82599_c.specs.declared.end.End.TheVariants.{RxDriver, RxController, TxDriver, TxController, RxQueue, RxDevice, TxQueue, TxDevice, Packets}
 
@@ -47,7 +47,7 @@ as_tx_device (Some (TxDevice d)) = Some d.end
 as_tx_device _ = None
 
 -- the same device, with the frame that waits in it
-abbrev pub as_sender : Option End → Option Sending
+abbrev pub as_sender : Option End → Option SendingDevice
 as_sender (Some (TxDevice d)) = Some d
 as_sender _ = None
 

@@ -1,7 +1,7 @@
 //! The device of a transmit queue: its controller, and the ring that it shares.
 ghost use Rattle.std.specs.Prelude.{◌≡◌, ◌∷◌, [], ◌<◌, length};
 ghost use Rattle.ring_model.specs.shared.Frames.{Bytes};
-ghost use Rattle.poll82599_c.specs.batches.Transmitting.{IsAtHand, Sending, TriedTurn, Turned};
+ghost use Rattle.poll82599_c.specs.batches.Transmitting.{IsAtHand, SendingDevice, TriedTurn, Turned};
 
 use crate::batches::found::Found;
 use crate::half::Half;
@@ -20,9 +20,9 @@ pub struct Sender {
 
 impl Model for Sender {
     ghost use Rattle.std.specs.Prelude.{◌≤◌, length};
-    ghost use Rattle.poll82599_c.specs.batches.Transmitting.{Sending};
+    ghost use Rattle.poll82599_c.specs.batches.Transmitting.{SendingDevice};
 
-    ghost Value = { Sending };
+    ghost Value = { SendingDevice };
 
     ghost view = { λ s. record { end = s.controller; waiting = s.wire } };
 
@@ -56,7 +56,7 @@ impl Sender {
     fn hand_out(&mut self, room: &mut [u8]) -> Found
         requires waits { 0 < length self.old.waiting }
         ensures end { self.new.end ≡ self.old.end }
-        ensures step { (was : Sending) → ((frame : Bytes) → self.old.waiting ≡ frame ∷ [] → IsAtHand frame was self.old.end) → TriedTurn result.answer result.count room.old room.new was self.new }
+        ensures step { (was : SendingDevice) → ((frame : Bytes) → self.old.waiting ≡ frame ∷ [] → IsAtHand frame was self.old.end) → TriedTurn result.answer result.count room.old room.new was self.new }
     {
         let frame = self.wire.frame(0);
         let count = frame.len();
