@@ -117,12 +117,12 @@ Did operation answer count old new = DidAlike transmitter operation answer count
 -- ---- a device's calls
 
 -- A device: its controller's end, and the frame that was sent last, while it waits for room.
-pub record Sending : Type 0 where
+pub record SendingDevice : Type 0 where
   pub end : ControllerSide
   pub waiting : List Bytes
 
 -- no frame waits before or after
-pub record NoneWaits (old new : Sending) : Type 0 where
+pub record NoneWaits (old new : SendingDevice) : Type 0 where
   pub before : old.waiting ≡ []
   pub after : new.waiting ≡ []
 
@@ -132,16 +132,16 @@ pub record SentWhole (frame : Bytes) (old new : ControllerSide) : Type 0 where
   pub frames_are : frames carried (sent new) ≡ frames carried (sent old) ++ frame ∷ []
 
 -- nothing is sent, because this frame was sent before and waits
-pub record Waited (frame : Bytes) (old : Sending) (new : ControllerSide) : Type 0 where
+pub record Waited (frame : Bytes) (old : SendingDevice) (new : ControllerSide) : Type 0 where
   pub waits : old.waiting ≡ frame ∷ []
   pub same : new ≡ old.end
 
 -- this frame is at hand: no frame waited and it was sent now, or it was sent before
-abbrev pub IsAtHand : Bytes → Sending → ControllerSide → Type 0
+abbrev pub IsAtHand : Bytes → SendingDevice → ControllerSide → Type 0
 IsAtHand frame old new = ((old.waiting ≡ []) × SentWhole frame old.end new) ⊎ Waited frame old new
 
 -- the frame at hand is at the beginning of the room
-pub record HandedOut (len : ℕ) (before after : Bytes) (old new : Sending) : Type 0 where
+pub record HandedOut (len : ℕ) (before after : Bytes) (old new : SendingDevice) : Type 0 where
   pub frame : Bytes
   pub at_hand : IsAtHand frame old new.end
   pub len_is : len ≡ length frame
@@ -149,7 +149,7 @@ pub record HandedOut (len : ℕ) (before after : Bytes) (old new : Sending) : Ty
   pub none_waits : new.waiting ≡ []
 
 -- the frame at hand is longer than the room, and waits
-pub record StillWaits (len : ℕ) (before after : Bytes) (old new : Sending) : Type 0 where
+pub record StillWaits (len : ℕ) (before after : Bytes) (old new : SendingDevice) : Type 0 where
   pub frame : Bytes
   pub at_hand : IsAtHand frame old new.end
   pub len_is : len ≡ length frame
@@ -158,20 +158,20 @@ pub record StillWaits (len : ℕ) (before after : Bytes) (old new : Sending) : T
   pub waits : new.waiting ≡ frame ∷ []
 
 -- a load of the tail showed that nothing is ready
-abbrev pub FoundIdle : Sending → Sending → Type 0
+abbrev pub FoundIdle : SendingDevice → SendingDevice → Type 0
 FoundIdle old new = WasIdle old.end [] new.end [] × NoneWaits old new
 
 -- the device does not serve
-abbrev pub FoundOff : Sending → Sending → Type 0
+abbrev pub FoundOff : SendingDevice → SendingDevice → Type 0
 FoundOff old new = WasOff old.end [] new.end [] × NoneWaits old new
 
 -- the tail was loaded, a frame is ready, and memory for it was refused: nothing was fetched
-abbrev pub FoundNoMemory : Sending → Sending → Type 0
+abbrev pub FoundNoMemory : SendingDevice → SendingDevice → Type 0
 FoundNoMemory old new = WasRefused old.end [] new.end [] × NoneWaits old new
 
 -- the result of handing out a frame, and its step: 1 and its length, in the room; 0 idle; 3 off; 4 and its length, longer
 -- than the room, so it waits; 5 no memory
-abbrev pub TriedTurn : ℕ → ℕ → Bytes → Bytes → Sending → Sending → Type 0
+abbrev pub TriedTurn : ℕ → ℕ → Bytes → Bytes → SendingDevice → SendingDevice → Type 0
 TriedTurn zero count before after old new = FoundIdle old new × (after ≡ before)
 TriedTurn (suc zero) count before after old new = HandedOut count before after old new
 TriedTurn (suc (suc (suc zero))) count before after old new = FoundOff old new × (after ≡ before)
@@ -181,14 +181,14 @@ TriedTurn _ count before after old new = ⊥
 
 -- the control word was loaded, and a request answered if possible: `value` is the word that was stored, otherwise the
 -- one loaded
-pub record Turned (value : ℕ) (old new : Sending) : Type 0 where
+pub record Turned (value : ℕ) (old new : SendingDevice) : Type 0 where
   pub told : Control
   pub value_is : value ≡ control_word told
   pub turned : TurnedControl old.end told new.end
   pub waiting : new.waiting ≡ old.waiting
 
 -- the step of an operation, by its number, with this result
-abbrev pub Played : ℕ → ℕ → ℕ → Bytes → Bytes → Sending → Sending → Type 0
+abbrev pub Played : ℕ → ℕ → ℕ → Bytes → Bytes → SendingDevice → SendingDevice → Type 0
 Played zero answer count before after old new = TriedTurn answer count before after old new
 Played (suc zero) answer count before after old new = Turned answer old new
 Played _ answer count before after old new = answer ≡ 4294967295
