@@ -63,9 +63,3 @@ goes_on number whole rest before some code other = record {
   enough = omega (arith, length-drop (taken number rest) rest, before.enough);
   said = sym (further number before.steps rest some before.enough code other) ∙ before.said;
 }
-
--- an option that goes on beyond the end
-pub beyond : (number : Numbers) (whole : ℕ) (rest : List ℕ) → Tells number whole rest → 5 ≤ length rest → number 2 rest ≢ 0
-    → (number 2 rest ≡ 9 → number 2 (drop 2 rest) ≡ 1 → ⊥) → length rest < taken number rest → 6 ≡ whole
-beyond number whole rest before some code other short =
-    few_left number whole (drop (taken number rest) rest) (goes_on number whole rest before some code other) (omega (arith, length-drop (taken number rest) rest))

@@ -174,10 +174,7 @@ fn resolution_of(order: Order, options: &[u8]) -> u8
             return rest[4];
         }
         let taken = 4 + (len as usize + 3) / 4 * 4;
-        if rest.len() < taken {
-            return 6;
-        }
-        rest = rest.split_at(taken).1;
+        rest = rest.split_at(taken.min(rest.len())).1;
     }
     6
 }

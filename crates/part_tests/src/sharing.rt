@@ -29,10 +29,9 @@ pub fn share_out<R: Threads + Wait + Sync>(
         pool,
         pass,
         HALF,
-        |pass: PoolPass| -> PoolPass
-            requires { HoldsNone pool.now HALF pass }
-            ensures { HoldsNone pool.entry.now HALF result }
-        { in_two(rt, pool, pass, job) },
+        |part|
+            requires { HoldsNone pool.now HALF part }
+        { in_two(rt, pool, part, job) },
     )
 }
 
@@ -42,16 +41,7 @@ pub fn in_two<R: Threads + Wait + Sync>(rt: &R, pool: &Pool, pass: PoolPass, job
     requires { HoldsNone pool.now HALF pass }
     ensures { HoldsNone pool.now HALF result }
 {
-    halved(
-        rt,
-        pool,
-        pass,
-        QUARTER,
-        |pass: PoolPass| -> PoolPass
-            requires { HoldsNone pool.now QUARTER pass }
-            ensures { HoldsNone pool.entry.now QUARTER result }
-        { work(rt, pool, pass, job) },
-    )
+    halved(rt, pool, pass, QUARTER, |part| work(rt, pool, part, job))
 }
 
 /// Splits a share in two, runs two threads with half of it each, and joins them.

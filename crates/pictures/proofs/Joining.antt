@@ -1,7 +1,8 @@
 -- Texts that are written one after another.
-use Rattle.std.proofs.Common.{◌≡◌, ◌∙◌, List, ℕ, ◌++◌, ap, append_assoc}
+use Rattle.std.proofs.Common.{◌≡◌, ◌∙◌, List, ℕ, Bool, true, false, ◌++◌, ap, append_assoc, refl}
+use Rattle.std.specs.Int.{from_bool}
 use Rattle.std.specs.Prelude.{codes}
-use Rattle.ring_model.specs.shared.Agreement.{Wrapped}
+use Rattle.ring_model.specs.shared.Agreement.{Wrapped, bit}
 use Rattle.pictures.specs.States.{queue_members}
 
 pub two : (old t1 t2 a b : List ℕ) → t1 ≡ old ++ a → t2 ≡ t1 ++ b → t2 ≡ old ++ (a ++ b)
@@ -31,3 +32,8 @@ pub line-written : (letter : List ℕ) (number read size : ℕ) (state old t1 t2
     → t3 ≡ t2 ++ codes "}\n" → t3 ≡ old ++ (queue_members letter number size ++ (state ++ codes "}\n"))
 line-written letter number read size state old t1 t2 t3 same named stated ended =
     three old t1 t2 t3 (queue_members letter number size) state (codes "}\n") (named ∙ ap (λ (n : ℕ). old ++ queue_members letter number n) same) stated ended
+
+-- a bit is the number that a flag is written as
+pub bit_is : (b : Bool) → bit b ≡ from_bool b
+bit_is true = refl
+bit_is false = refl

@@ -1,10 +1,6 @@
 -- A queue as JSON objects: the place that a move is about, with its descriptor's fields by name, the shared words, and
 -- what driver and controller know. Sizes, places and counts are plain numbers.
 use Rattle.std.specs.Prelude.{ℕ, zero, suc, ◌/◌, ◌%◌, Bool, not, List, [], ◌∷◌, ◌++◌, Option, Some, None, codes, decimal, option_map, slice_get, slice_index, if◌then◌else◌}
-use Rattle.ring_model.specs.declared.states.ControllerState.{ControllerState}
-use Rattle.ring_model.specs.declared.states.ControllerState.TheVariants.{Off, Serving, Ended}
-use Rattle.ring_model.specs.declared.states.DriverState.{DriverState}
-use Rattle.ring_model.specs.declared.states.DriverState.TheVariants.{New, Asked, On, Stopping, Stopped, Cleared, Tailed}
 use Rattle.ring_model.specs.declared.states.Owner.{Owner}
 use Rattle.ring_model.specs.declared.states.Owner.TheVariants as owner
 use Rattle.ring_model.specs.declared.steps.RxStep.{RxStep}
@@ -24,6 +20,7 @@ use Rattle.ring_machine.specs.declared.registers.QueueKind.TheVariants.{Receive,
 use Rattle.ring_machine.specs.receive.Machine.{RxParts}
 use Rattle.ring_machine.specs.shared.Machine.{told_owner}
 use Rattle.ring_machine.specs.text.Moves.{text_of}
+use Rattle.ring_machine.specs.text.States.{controller_word, driver_word}
 use Rattle.ring_machine.specs.transmit.Machine.{TxParts}
 use Rattle.ring_machine.specs.Queues.{QueueParts}
 use Rattle.pictures.specs.Pictures.{number_or, owner_word, place_before}
@@ -85,20 +82,6 @@ spot_object kind w None = codes "null"
 spot_object kind w (Some place) = place_object kind w place
 
 -- ---- what the sides share and know
-
-abbrev pub driver_word : DriverState → List ℕ
-driver_word New = codes "New"
-driver_word Asked = codes "Asked"
-driver_word On = codes "On"
-driver_word Stopping = codes "Stopping"
-driver_word Stopped = codes "Stopped"
-driver_word Cleared = codes "Cleared"
-driver_word Tailed = codes "Tailed"
-
-abbrev pub controller_word : ControllerState → List ℕ
-controller_word Off = codes "off"
-controller_word Serving = codes "serving"
-controller_word Ended = codes "ended"
 
 abbrev pub words_members : Wrapped ℕ → List ℕ
 words_members w = codes "\"words\":{\"head\":" ++ (decimal w.head ++ (codes ",\"tail\":" ++ (decimal w.tail ++ (codes ",\"control\":" ++ decimal w.handshake.control))))

@@ -1,32 +1,14 @@
 //! A queue's shared words, and what driver and controller know, as members of a JSON object.
 ghost use Rattle.std.specs.Prelude.{◌≡◌, ◌++◌, OnOk};
 ghost use Rattle.std.specs.String.{string_bytes};
-ghost use Rattle.pictures.specs.States.{controller_members, controller_word, driver_members, driver_word, due_member, head_member, head_word, quiet_member, quiet_word, reported_members, rx_state, tx_state, words_members};
+ghost use Rattle.pictures.specs.States.{controller_members, driver_members, due_member, head_member, head_word, reported_members, rx_state, tx_state, words_members};
 
 use crate::columns::NumberOr;
-use ring_machine::{QueueKind, QueueMachine, Registers, RxMachine, TxMachine};
-use ring_model::{ControllerState, DriverState, Handshake};
+use ring_machine::{
+    QueueKind, QueueMachine, Registers, RxMachine, TxMachine, controller_word, driver_word,
+};
+use ring_model::Handshake;
 use std::alloc::AllocError;
-
-/// The printed states of the driver, in the order of [`DriverState`].
-const DRIVER_WORDS: [&str; 7] = [
-    "New", "Asked", "On", "Stopping", "Stopped", "Cleared", "Tailed",
-];
-
-fn driver_word(driver: DriverState) -> &'static str
-    ensures { result.now ≡ driver_word driver }
-{
-    DRIVER_WORDS[driver as usize]
-}
-
-/// The printed states of the controller, in the order of [`ControllerState`].
-const CONTROLLER_WORDS: [&str; 3] = ["off", "serving", "ended"];
-
-fn controller_word(controller: ControllerState) -> &'static str
-    ensures { result.now ≡ controller_word controller }
-{
-    CONTROLLER_WORDS[controller as usize]
-}
 
 // Writes the words that both directions share.
 fn write_words(text: &mut String, machine: &QueueMachine) -> Result<(), AllocError>
@@ -44,8 +26,8 @@ fn write_words(text: &mut String, machine: &QueueMachine) -> Result<(), AllocErr
 fn write_driver(text: &mut String, machine: &QueueMachine) -> Result<(), AllocError>
     ensures { OnOk result (string_bytes text.new ≡ string_bytes text.old ++ driver_members machine.now) }
 {
-    let handshake = machine.handshake();
-    let state = driver_word(handshake.driver);
+    let Handshake { driver, .. } = machine.handshake();
+    let state = driver_word(driver);
     let (fill, next) = (machine.fill(), machine.next());
     write!(
         text,
@@ -69,31 +51,17 @@ fn write_controller(text: &mut String, machine: &QueueMachine) -> Result<(), All
     )
 }
 
-// Writes the quiet word.
-fn write_quiet_word(text: &mut String, machine: &RxMachine) -> Result<(), AllocError>
-    ensures { OnOk result (string_bytes text.new ≡ string_bytes text.old ++ quiet_word machine.now) }
-{
-    let quiet = machine.quiet();
-    write!(text, ",\"quiet\":{quiet}")
-}
-
-// Writes whether the controller is quiet, and closes the object.
-fn write_quiet(text: &mut String, machine: &RxMachine) -> Result<(), AllocError>
-    ensures { OnOk result (string_bytes text.new ≡ string_bytes text.old ++ quiet_member machine.now) }
-{
-    let quiet = u8::from(machine.is_still());
-    write!(text, ",\"quiet\":{quiet}}}")
-}
-
 /// Writes the state of a receive queue.
 pub(crate) fn write_receive(text: &mut String, machine: &RxMachine) -> Result<(), AllocError>
     ensures { OnOk result (string_bytes text.new ≡ string_bytes text.old ++ rx_state machine.now) }
 {
+    let quiet = machine.quiet();
+    let still = u8::from(machine.is_still());
     write_words(text, machine.queue())?;
-    write_quiet_word(text, machine)?;
+    write!(text, ",\"quiet\":{quiet}")?;
     write_driver(text, machine.queue())?;
     write_controller(text, machine.queue())?;
-    write_quiet(text, machine)?;
+    write!(text, ",\"quiet\":{still}}}")?;
     Ok(())
 }
 

@@ -7,14 +7,9 @@
 
 mod relaying;
 
-use crate::kit::{batch_plan, refuse, report};
-use anyhow::Result;
+use crate::kit::{BatchPlan, batch_plan};
 use driver::MOST_BATCH;
-use relaying::relay;
-use std::alloc::Global;
-use std::process::ExitCode;
-use std::rt::Clock;
-use std::sync::Wait;
+pub use relaying::relay;
 
 /// The usage, printed when the command line is wrong.
 const USAGE: &str = "Usage: ring_bench batch --ring N --frames N --size N --batch N
@@ -29,14 +24,7 @@ Passes frames through a receive ring, both drivers and a transmit ring on one th
 Example:
   ring_bench batch --ring 512 --frames 1000000 --size 60 --batch 32";
 
-/// Measures with these options, or prints the usage.
-pub fn measure<R: Wait + Clock + Print + Eprint>(
-    rt: &R,
-    alloc: Global,
-    options: &[String],
-) -> Result<ExitCode> {
-    match batch_plan(options, 8, MOST_BATCH as u32) {
-        Some(plan) => report(rt, plan.load.frames, relay(rt, alloc, plan)),
-        None => refuse(rt, USAGE),
-    }
+/// Parses the options, each once with its value. The error is the usage.
+pub fn plan_of(options: &[String]) -> Result<BatchPlan, &'static str> {
+    batch_plan(options, 8, MOST_BATCH as u32).ok_or(USAGE)
 }

@@ -1,7 +1,7 @@
 //! The common parts of the benchmarks.
 //!
 //! `words` parses the options, `supply` makes the frame and the buffers, `patience` lets a thread wait, and `tally`
-//! sums up the frames that were read. `enabling` enables a queue of either direction. `storing` and `fetching` are the
+//! sums up the frames that were read. `run` names what two threads need. `enabling` enables a queue of either direction. `storing` and `fetching` are the
 //! device's steps at a receive ring and at a transmit ring. `timing` measures and prints the time, and `outcome`
 //! combines results.
 //!
@@ -14,6 +14,7 @@ mod forwarding;
 mod meeting;
 mod outcome;
 mod patience;
+mod run;
 mod storing;
 mod supply;
 mod tally;
@@ -27,9 +28,10 @@ pub use forwarding::{Forwarder, Moved};
 pub use meeting::{Ends, meet};
 pub use outcome::{both, no_thread};
 pub use patience::Patience;
+pub use run::Run;
 pub use storing::store;
 pub use supply::{BYTE, frame_of, spare_for, stock_for};
 pub use tally::Tally;
-pub use timing::{Timed, now, refuse, report, since};
+pub use timing::{Timed, measure, now, refuse, since};
 pub use track::{Parts, Track, Way};
 pub use words::{BatchPlan, Workload, batch_plan, load_of, number_of, value_of, words_of};

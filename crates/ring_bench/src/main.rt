@@ -13,7 +13,7 @@ mod rx;
 mod tx;
 
 use anyhow::Result;
-use kit::{refuse, words_of};
+use kit::{measure, refuse, words_of};
 use std::process::ExitCode;
 
 /// The usage, printed if the first word names no benchmark.
@@ -32,11 +32,24 @@ fn main(rt: HostRuntime) -> Result<ExitCode> {
     let (Some(name), Some(options)) = (words.first(), words.get(1..)) else {
         return refuse(&rt, USAGE);
     };
+    let alloc = rt.alloc();
     match name.as_str() {
-        "rx" => rx::measure(&rt, rt.alloc(), options),
-        "tx" => tx::measure(&rt, rt.alloc(), options),
-        "batch" => batch::measure(&rt, rt.alloc(), options),
-        "pass" => pass::measure(&rt, rt.alloc(), options),
+        "rx" => measure(&rt, rx::plan_of(options), |plan| rx::pass(&rt, alloc, plan)),
+        "tx" => measure(
+            &rt,
+            tx::plan_of(options),
+            |plan| tx::send_frames(&rt, alloc, plan),
+        ),
+        "batch" => measure(
+            &rt,
+            batch::plan_of(options),
+            |plan| batch::relay(&rt, alloc, plan),
+        ),
+        "pass" => measure(
+            &rt,
+            pass::plan_of(options),
+            |plan| pass::pass_layers(&rt, alloc, plan),
+        ),
         _ => refuse(&rt, USAGE),
     }
 }

@@ -10,27 +10,5 @@ mod layers;
 mod serving;
 mod words;
 
-use crate::kit::{refuse, report};
-use anyhow::Result;
-use layers::pass_layers;
-use std::alloc::Global;
-use std::process::ExitCode;
-use std::rt::Clock;
-use std::sync::Wait;
-use std::thread::Threads;
-use words::{USAGE, plan_of};
-
-/// Measures with these options, or prints the usage.
-pub fn measure<R: Threads + Wait + Clock + Sync + Print + Eprint>(
-    rt: &R,
-    alloc: Global,
-    options: &[String],
-) -> Result<ExitCode> {
-    match plan_of(options) {
-        Some((plan, threading)) => {
-            let passed = pass_layers(rt, alloc, plan, threading);
-            report(rt, plan.load.frames, passed)
-        }
-        None => refuse(rt, USAGE),
-    }
-}
+pub use layers::pass_layers;
+pub use words::plan_of;

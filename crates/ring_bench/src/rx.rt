@@ -10,15 +10,9 @@ mod passing;
 mod storing;
 mod taking;
 
-use crate::kit::{batch_plan, refuse, report};
-use anyhow::Result;
+use crate::kit::{BatchPlan, batch_plan};
 use limits::MOST_RING;
-use passing::pass;
-use std::alloc::Global;
-use std::process::ExitCode;
-use std::rt::Clock;
-use std::sync::Wait;
-use std::thread::Threads;
+pub use passing::pass;
 
 /// The usage, printed when the command line is wrong.
 const USAGE: &str = "Usage: ring_bench rx --ring N --frames N --size N --batch N
@@ -33,14 +27,7 @@ Passes frames through a receive ring with a thread at each end. Prints the cost 
 Example:
   ring_bench rx --ring 512 --frames 1000000 --size 60 --batch 32";
 
-/// Measures with these options, or prints the usage.
-pub fn measure<R: Threads + Wait + Clock + Sync + Print + Eprint>(
-    rt: &R,
-    alloc: Global,
-    options: &[String],
-) -> Result<ExitCode> {
-    match batch_plan(options, 8, MOST_RING as u32) {
-        Some(plan) => report(rt, plan.load.frames, pass(rt, alloc, plan)),
-        None => refuse(rt, USAGE),
-    }
+/// Parses the options, each once with its value. The error is the usage.
+pub fn plan_of(options: &[String]) -> Result<BatchPlan, &'static str> {
+    batch_plan(options, 8, MOST_RING as u32).ok_or(USAGE)
 }

@@ -12,24 +12,5 @@ mod posting;
 mod sending;
 mod words;
 
-use crate::kit::{refuse, report};
-use anyhow::Result;
-use sending::send_frames;
-use std::alloc::Global;
-use std::process::ExitCode;
-use std::rt::Clock;
-use std::sync::Wait;
-use std::thread::Threads;
-use words::{USAGE, plan_of};
-
-/// Measures with these options, or prints the usage.
-pub fn measure<R: Threads + Wait + Clock + Sync + Print + Eprint>(
-    rt: &R,
-    alloc: Global,
-    options: &[String],
-) -> Result<ExitCode> {
-    match plan_of(options) {
-        Some(plan) => report(rt, plan.load.frames, send_frames(rt, alloc, plan)),
-        None => refuse(rt, USAGE),
-    }
-}
+pub use sending::send_frames;
+pub use words::plan_of;

@@ -1,3 +1,4 @@
 pub mod Arguments
 pub mod Moves
 pub mod RegisterTexts
+pub mod States

@@ -1,5 +1,6 @@
 //! Receive and transmit queues of the 82599 as pure machines, with words and slots by place, and places that wrap.
-//! Depends on `ring_model`, whose types it re-exports, `ring_laws`, `limits`, `refusals`, `arrayvec` and `text_lines`.
+//! Depends on `ring_model`, whose types it re-exports, `ring_laws`, `descriptor`, `limits`, `refusals`, `arrayvec` and
+//! `text_lines`.
 //! Guarantees that a machine that agrees with a ring of `ring_model` agrees, after any schedule, with the ring after
 //! that schedule, and so do queues side by side with their world.
 //!
@@ -13,6 +14,7 @@ mod moves;
 mod obstacle;
 mod queues;
 mod registers;
+mod state_words;
 
 pub use limits::is_ring_length;
 pub use machine::{QueueMachine, RxMachine, TxMachine};
@@ -26,3 +28,4 @@ pub use ring_model::{
     Completion, ControlStep, ControllerState, DriverState, FetchedSegment, Note, Owner, RxStep,
     TakenSegment, TxStep,
 };
+pub use state_words::{controller_word, driver_word};

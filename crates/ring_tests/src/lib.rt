@@ -23,5 +23,5 @@ pub use beside::{Beside, Survey, Walk, disable, enable, makes, random_control};
 pub use buffers::{BUFFERS, Closed, filled, full_stash, is_filled, put_back};
 pub use frames::{frame, frame_len, is_frame};
 pub use random::Random;
-pub use rows::{Tells, told_so};
+pub use rows::{Tells, YesOrNo, told_so};
 pub use storer::Storer;

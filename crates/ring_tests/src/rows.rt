@@ -1,5 +1,17 @@
 //! Rows of steps with expected results.
 
+/// A result that may be yes or no.
+pub trait YesOrNo: Sized {
+    const YES: Self;
+
+    const NO: Self;
+
+    /// Yes if `holds`, and otherwise no.
+    fn whether(holds: bool) -> Self {
+        if holds { Self::YES } else { Self::NO }
+    }
+}
+
 /// A subject that makes steps and reports a result of each.
 pub trait Tells {
     /// A step.

@@ -5,6 +5,7 @@ use Rattle.ring_model.specs.declared.states.DriverState.TheVariants as driver
 use Rattle.ring_model.specs.declared.states.ControllerState.{ControllerState}
 use Rattle.ring_model.specs.declared.states.ControllerState.TheVariants as controller
 use Rattle.ring_machine.specs.text.Moves.{name_of}
+use Rattle.ring_machine.specs.text.States.{controller_word, driver_word}
 use Rattle.schedules.specs.declared.covering.pairs.Pair.{Pair}
 use Rattle.schedules.specs.OutcomeKind.{outcome_words}
 
@@ -22,22 +23,8 @@ controller_number controller.Off = 0
 controller_number controller.Serving = 1
 controller_number controller.Ended = 2
 
-abbrev pub driver_words : DriverState → List ℕ
-driver_words driver.New = codes "New"
-driver_words driver.Asked = codes "Asked"
-driver_words driver.On = codes "On"
-driver_words driver.Stopping = codes "Stopping"
-driver_words driver.Stopped = codes "Stopped"
-driver_words driver.Cleared = codes "Cleared"
-driver_words driver.Tailed = codes "Tailed"
-
-abbrev pub controller_words : ControllerState → List ℕ
-controller_words controller.Off = codes "off"
-controller_words controller.Serving = codes "serving"
-controller_words controller.Ended = codes "ended"
-
 abbrev pub states_text : DriverState → ControllerState → List ℕ
-states_text d c = codes "driver " ++ driver_words d ++ codes " controller " ++ controller_words c
+states_text d c = codes "driver " ++ driver_word d ++ codes " controller " ++ controller_word c
 
 -- "r0 A6 driver On controller serving: none"
 abbrev pub pair_text : Pair → List ℕ

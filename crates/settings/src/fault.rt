@@ -51,12 +51,9 @@ impl Config {
         ensures none { (result ≡ None) ↔ IsLawful self.now }
         ensures fault { (script : _) → IfSome result (λ f. IsFault script self.now f) }
     {
-        if let Some(fault) = self.ring_fault() {
-            return Some(fault);
-        }
-        match self.buffer_fault() {
+        match self.ring_fault() {
             Some(fault) => Some(fault),
-            None => self.work_fault(),
+            None => self.size_fault(),
         }
     }
 
@@ -73,9 +70,10 @@ impl Config {
         }
     }
 
-    fn buffer_fault(&self) -> Option<ConfigFault>
+    /// The fault of a number other than those of the queues.
+    fn size_fault(&self) -> Option<ConfigFault>
         requires { HasLawfulQueues self.now }
-        ensures none { (result ≡ None) ↔ HasLawfulBuffers self.now }
+        ensures none { (result ≡ None) ↔ (HasLawfulBuffers self.now × HasLawfulWork self.now) }
         ensures fault { (script : _) → IfSome result (λ f. IsFault script self.now f) }
     {
         if self.buffers < FEWEST_BUFFERS || MOST_BUFFERS < self.buffers {
@@ -84,17 +82,7 @@ impl Config {
             Some(ConfigFault::Share)
         } else if !is_fill_size(self.bsize as usize) {
             Some(ConfigFault::Bsize)
-        } else {
-            None
-        }
-    }
-
-    fn work_fault(&self) -> Option<ConfigFault>
-        requires { HasLawfulQueues self.now }
-        ensures none { (result ≡ None) ↔ HasLawfulWork self.now }
-        ensures fault { (script : _) → IfSome result (λ f. IsFault script self.now f) }
-    {
-        if self.batch < 1 || MOST_BATCH < self.batch as usize {
+        } else if self.batch < 1 || MOST_BATCH < self.batch as usize {
             Some(ConfigFault::Batch)
         } else if self.rs_every < 1 || u32::from(MOST_RS_EVERY) < self.rs_every {
             Some(ConfigFault::RsEvery)

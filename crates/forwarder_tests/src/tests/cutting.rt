@@ -54,43 +54,44 @@ fn was_cut(report: &Report, script: &Script, made: u64, retry: bool) -> bool {
     few && flow.ended == Ended::Cut && is_relayed(flow, script, retry) && all_add_up(&report.flows)
 }
 
-/// Whether flow 1 is cut after exactly these turns.
-fn is_cut<R: Threads + Wait + Sync + Abort>(
-    rt: &R,
-    alloc: Global,
-    script: &Script,
+/// The script, the number of turns after which flow 1 is cut, and whether packets are kept.
+#[derive(Clone, Copy)]
+struct Cut<'a> {
+    script: &'a Script,
     turns: u32,
     retry: bool,
-) -> bool {
+}
+
+/// Whether flow 1 is cut after exactly these turns.
+fn is_cut<R: Threads + Wait + Sync + Abort>(rt: &R, alloc: Global, cut: Cut<'_>) -> bool {
     let config = Config {
-        turns,
-        retry,
+        turns: cut.turns,
+        retry: cut.retry,
         ..SHORT
     };
     let gate = Turns::new();
-    let report = forward(rt, alloc, script, &config, &gate).expect(rt, "a report");
-    gate.made() == u64::from(turns) && was_cut(&report, script, gate.made(), retry)
+    let report = forward(rt, alloc, cut.script, &config, &gate).expect(rt, "a report");
+    gate.made() == u64::from(cut.turns) && was_cut(&report, cut.script, gate.made(), cut.retry)
 }
 
 /// Whether flow 1 is cut at the turn in which a flag is set, with no limit on the turns.
-fn is_cut_by_a_flag<R: Threads + Wait + Sync + Abort>(
-    rt: &R,
-    alloc: Global,
-    script: &Script,
-    turns: u32,
-    retry: bool,
-) -> bool {
-    let config = Config { retry, ..SHORT };
-    config.check(script).expect(rt, "a lawful configuration");
+fn is_cut_by_a_flag<R: Threads + Wait + Sync + Abort>(rt: &R, alloc: Global, cut: Cut<'_>) -> bool {
+    let config = Config {
+        retry: cut.retry,
+        ..SHORT
+    };
+    config
+        .check(cut.script)
+        .expect(rt, "a lawful configuration");
     let (pool, mut pass) = Pool::new(rt, alloc, config.buffers).expect(rt, "a pool");
-    let gate = Turns::with_flag_at(u64::from(turns));
+    let gate = Turns::with_flag_at(u64::from(cut.turns));
     let stop = Some(gate.flag());
     let (report, pens) = forward_with(
-        rt, alloc, script, &config, &gate, &pool, &mut pass, None, stop,
+        rt, alloc, cut.script, &config, &gate, &pool, &mut pass, None, stop,
     )
     .expect(rt, "a report");
-    let made = gate.made() == u64::from(turns) && pens.is_empty();
-    made && was_cut(&report, script, gate.made(), retry)
+    let made = gate.made() == u64::from(cut.turns) && pens.is_empty();
+    made && was_cut(&report, cut.script, gate.made(), cut.retry)
 }
 
 /// Whether that holds if packets are kept, and if they are dropped, by a limit and by a flag.
@@ -102,8 +103,12 @@ fn is_cut_either_way<R: Threads + Wait + Sync + Abort>(
 ) -> bool {
     let mut good = true;
     for retry in [true, false] {
-        good &= is_cut(rt, alloc, script, turns, retry);
-        good &= is_cut_by_a_flag(rt, alloc, script, turns, retry);
+        let cut = Cut {
+            script,
+            turns,
+            retry,
+        };
+        good &= is_cut(rt, alloc, cut) && is_cut_by_a_flag(rt, alloc, cut);
     }
     good
 }

@@ -12,7 +12,7 @@ use crate::kit::{
     BatchPlan, Ends, Forwarder, Tally, Timed, Track, Way, answer_enabling, both, meet, now, send,
     since, store,
 };
-use anyhow::{Result, ensure};
+use anyhow::Result;
 use rx_ring::{ControllerEnd, RxControllerEnd, RxRing};
 use std::alloc::Global;
 use std::rt::Clock;
@@ -67,7 +67,7 @@ fn relay_run<R: Wait + Clock>(
     let spent = timed(rt, alloc, way, plan, &mut sides);
     let (spent, sides) = both(spent, Ok(sides))?;
     let done = finish(way, plan, sides);
-    Ok(Timed { done, spent })
+    Ok(Timed::new(done, plan.load.frames, spent))
 }
 
 /// Enables both queues, and fills the receive ring.
@@ -106,10 +106,10 @@ fn timed<R: Wait + Clock>(
     let start = now(rt)?;
     relay_all(rt, way, plan, sides)?;
     let spent = since(rt, start)?;
-    ensure!(
-        sides.device.tally == Tally::of(way.frame.as_slice(), plan.load.frames),
-        "the frames that were sent are not those that were stored"
-    );
+    sides
+        .device
+        .tally
+        .check(way.frame.as_slice(), plan.load.frames)?;
     Ok(spent)
 }
 

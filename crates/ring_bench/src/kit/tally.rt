@@ -1,5 +1,7 @@
 //! A summary of the frames that were read.
 
+use anyhow::{Result, ensure};
+
 /// The total bytes of some frames, and the sum of their first bytes.
 #[derive(Clone, Copy, PartialEq, Eq)]
 pub struct Tally {
@@ -24,6 +26,15 @@ impl Tally {
             bytes: (frame.len() as u64).wrapping_mul(count),
             first_bytes: first.wrapping_mul(count),
         }
+    }
+
+    /// Checks that the tally is that of `frames` frames like this one.
+    pub fn check(self, frame: &[u8], frames: u32) -> Result<()> {
+        ensure!(
+            self == Tally::of(frame, frames),
+            "the frames that came out are not those that went in"
+        );
+        Ok(())
     }
 
     /// Adds one more frame.

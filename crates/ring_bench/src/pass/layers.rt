@@ -48,11 +48,11 @@ struct Sides {
 pub fn pass_layers<R: Threads + Wait + Clock + Sync>(
     rt: &R,
     alloc: Global,
-    plan: BatchPlan,
-    threading: Threading,
+    planned: (BatchPlan, Threading),
 ) -> Result<Timed<Gone>>
-    ensures { IfOk result (λ p. HasGone plan.load.frames (replicate plan.load.size BYTE) p.done.ends p.done.wire) }
+    ensures { IfOk result (λ p. HasGone planned.0.load.frames (replicate planned.0.load.size BYTE) p.done.ends p.done.wire) }
 {
+    let (plan, threading) = planned;
     let Track { way, parts } = Track::new(alloc, plan)?;
     let sides = Sides {
         device: Device::new(alloc, parts.rx, parts.tx),
@@ -112,7 +112,7 @@ fn finish(way: &Way, plan: BatchPlan, sides: Sides, spent: Duration) -> Result<T
     let sent = see_all_sent(plan.load.frames, &sides.device);
     let (_, sides) = both(sent, Ok(sides))?;
     let done = close(way, plan, sides);
-    Ok(Timed { done, spent })
+    Ok(Timed::new(done, plan.load.frames, spent))
 }
 
 /// Checks that `frames` frames are on the wire, and that the queue is enabled.

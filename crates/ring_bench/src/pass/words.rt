@@ -13,7 +13,7 @@ pub enum Threading {
 }
 
 /// The usage, printed when the command line is wrong.
-pub const USAGE: &str = "Usage: ring_bench pass --ring N --frames N --size N --batch N --threads 1|2
+const USAGE: &str = "Usage: ring_bench pass --ring N --frames N --size N --batch N --threads 1|2
 
 Passes frames through the controllers and drivers of a receive ring and a transmit ring to a wire. Prints the cost of a
 frame.
@@ -27,8 +27,12 @@ frame.
 Example:
   ring_bench pass --ring 512 --frames 1000000 --size 60 --batch 32 --threads 2";
 
-/// Parses the words after the program's name: each option once with its value.
-pub fn plan_of(options: &[String]) -> Option<(BatchPlan, Threading)> {
+/// Parses the options, each once with its value. The error is the usage.
+pub fn plan_of(options: &[String]) -> Result<(BatchPlan, Threading), &'static str> {
+    parsed(options).ok_or(USAGE)
+}
+
+fn parsed(options: &[String]) -> Option<(BatchPlan, Threading)> {
     let plan = batch_plan(options, 10, MOST_BATCH as u32)?;
     Some((plan, threading_of(options)?))
 }

@@ -7,10 +7,10 @@ ghost use Rattle.ring_bench.specs.Storing.{StoredOnly};
 ghost use Rattle.ring_bench.specs.declared.kit.supply.TheConstants.{BYTE};
 ghost use Rattle.ring_bench.specs.Passing.{CanAsk, CanPass, HasPassed, TookAll};
 
-use crate::kit::{BatchPlan, Tally, Timed, both, frame_of, no_thread, now, since, stock_for};
+use crate::kit::{BatchPlan, Run, Timed, both, frame_of, no_thread, now, since, stock_for};
 use crate::rx::storing::store_all;
 use crate::rx::taking::{Reception, take_all};
-use anyhow::{Result, ensure};
+use anyhow::Result;
 use buffer_pool::Stock;
 use rx_ring::{DriverEnd, RxControllerEnd, RxDriverEnd, RxRing, meet_rx};
 use std::alloc::Global;
@@ -34,13 +34,8 @@ struct Track {
     ends: Ends,
 }
 
-/// A run: the ring, the frame, and the plan.
-#[derive(Clone, Copy)]
-struct Run<'a> {
-    ring: &'a RxRing,
-    frame: &'a [u8],
-    plan: BatchPlan,
-}
+/// A run of this ring.
+pub type RxRun<'a> = Run<'a, RxRing, BatchPlan>;
 
 /// The results of both threads.
 #[derive(Drop)]
@@ -68,11 +63,7 @@ pub fn pass<R: Threads + Wait + Clock + Sync>(
 {
     let frame = frame_of(alloc, plan.load.size)?;
     let Track { ring, ends } = supplied(alloc, plan.load.ring)?;
-    let run = Run {
-        ring: &ring,
-        frame: frame.as_slice(),
-        plan,
-    };
+    let run = Run::new(&ring, frame.as_slice(), plan);
     let passed = pass_run(rt, run, ends);
     drop(ring);
     passed
@@ -94,7 +85,7 @@ fn supplied(alloc: Global, size: u32) -> Result<Track>
 /// Passes the run's frames, and returns the time.
 fn pass_run<R: Threads + Wait + Clock + Sync>(
     rt: &R,
-    run: Run<'_>,
+    run: RxRun<'_>,
     ends: Ends,
 ) -> Result<Timed<Ends>>
     requires { CanPass run.ring.now run.frame.now ends.driver ends.controller }
@@ -107,28 +98,18 @@ fn pass_run<R: Threads + Wait + Clock + Sync>(
 }
 
 /// Lets the ends meet, and checks that the frames taken are the frames stored.
-fn finish(run: Run<'_>, passage: Passage, spent: Duration) -> Result<Timed<Ends>>
+fn finish(run: RxRun<'_>, passage: Passage, spent: Duration) -> Result<Timed<Ends>>
     requires driver { TookAll run.ring.now run.plan.load.frames passage.reception.driver }
     requires controller { StoredOnly run.ring.now run.frame.now passage.controller }
     ensures { IfOk result (λ p. HasPassed run.entry.plan.load.frames run.entry.frame.now p.done.driver p.done.controller) }
 {
-    let seen = see_all_taken(run, passage.reception.tally);
+    let tally = passage.reception.tally;
     let done = meet(run, passage);
-    let (_, done) = both(seen, Ok(done))?;
-    Ok(Timed { done, spent })
-}
-
-/// Checks that the driver read the bytes of the frames.
-fn see_all_taken(run: Run<'_>, tally: Tally) -> Result<()> {
-    ensure!(
-        tally == Tally::of(run.frame, run.plan.load.frames),
-        "the frames that were taken are not those that were stored"
-    );
-    Ok(())
+    Timed::checked(tally, run.frame, run.plan.load.frames, done, spent)
 }
 
 /// Lets the ends meet.
-fn meet(run: Run<'_>, passage: Passage) -> Ends
+fn meet(run: RxRun<'_>, passage: Passage) -> Ends
     requires driver { TookAll run.ring.now run.plan.load.frames passage.reception.driver }
     requires controller { StoredOnly run.ring.now run.frame.now passage.controller }
     ensures { HasPassed run.entry.plan.load.frames run.entry.frame.now result.driver result.controller }
@@ -143,7 +124,7 @@ fn meet(run: Run<'_>, passage: Passage) -> Ends
 }
 
 /// Runs both ends, the controller's in its own thread, and joins it.
-fn in_threads<R: Threads + Wait + Sync>(rt: &R, run: Run<'_>, ends: Ends) -> Result<Passage>
+fn in_threads<R: Threads + Wait + Sync>(rt: &R, run: RxRun<'_>, ends: Ends) -> Result<Passage>
     requires { CanPass run.ring.now run.frame.now ends.driver ends.controller }
     ensures driver { IfOk result (λ p. TookAll run.entry.ring.now run.entry.plan.load.frames p.reception.driver) }
     ensures controller { IfOk result (λ p. StoredOnly run.entry.ring.now run.entry.frame.now p.controller) }
@@ -163,7 +144,7 @@ fn in_threads<R: Threads + Wait + Sync>(rt: &R, run: Run<'_>, ends: Ends) -> Res
             });
             match storing {
                 Ok(storing) => {
-                    let reception = take_all(rt, ring, driver, plan.load.frames, plan.batch);
+                    let reception = take_all(rt, Run::new(ring, frame, plan), driver);
                     let controller = storing.join(rt);
                     Ok(Passage {
                         reception,

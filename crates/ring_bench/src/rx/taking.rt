@@ -4,6 +4,7 @@ ghost use Rattle.rx_ring.specs.Ends.{taken};
 ghost use Rattle.ring_bench.specs.Passing.{CanAsk, CanTake, TookAll};
 
 use crate::kit::{Patience, Tally, await_enabling};
+use crate::rx::passing::RxRun;
 use rx_ring::{DriverEnd, Poll, RxDriverEnd, RxRing};
 use std::sync::Wait;
 
@@ -14,27 +15,22 @@ pub struct Reception {
     pub tally: Tally,
 }
 
-/// Enables the queue, takes `frames` frames and posts each buffer again. Publishes the postings once a batch, and when
+/// Enables the queue, takes the planned frames and posts each buffer again. Publishes the postings once a batch, and when
 /// no more frames are done.
-pub fn take_all<R: Wait>(
-    rt: &R,
-    ring: &RxRing,
-    mut driver: RxDriverEnd,
-    frames: u32,
-    batch: u32,
-) -> Reception
-    requires can { CanAsk ring.now driver }
-    ensures { TookAll ring.now frames result.driver }
+pub fn take_all<R: Wait>(rt: &R, run: RxRun<'_>, mut driver: RxDriverEnd) -> Reception
+    requires can { CanAsk run.ring.now driver }
+    ensures { TookAll run.entry.ring.now run.entry.plan.load.frames result.driver }
 {
+    let RxRun { ring, plan, .. } = run;
     await_enabling(rt, ring, &mut driver);
     let mut patience = Patience::new();
     let mut tally = Tally::new();
-    let mut left = frames;
+    let mut left = plan.load.frames;
     for _ in rt.forever() {
         if left == 0 {
             return Reception { driver, tally };
         }
-        let got = take_batch(ring, &mut driver, batch.min(left), &mut tally);
+        let got = take_batch(ring, &mut driver, plan.batch.min(left), &mut tally);
         if got == 0 {
             patience.wait();
             continue;

@@ -6,7 +6,7 @@ ghost use Rattle.ring_bench.specs.Fetching.{HasServed};
 ghost use Rattle.ring_bench.specs.declared.kit.supply.TheConstants.{BYTE};
 ghost use Rattle.ring_bench.specs.Sending.{CanEnable, CanSend, HasSent, PostedAll};
 
-use crate::kit::{Tally, Timed, both, frame_of, no_thread, now, since, stock_for};
+use crate::kit::{Run, Timed, both, frame_of, no_thread, now, since, stock_for};
 use crate::tx::fetching::{Transmission, send_all};
 use crate::tx::posting::{Posted, post_all};
 use crate::tx::words::TxPlan;
@@ -41,13 +41,8 @@ struct Track {
     sides: Sides,
 }
 
-/// A run: the ring, the frame, and the plan.
-#[derive(Clone, Copy)]
-struct Run<'a> {
-    ring: &'a TxRing,
-    frame: &'a [u8],
-    plan: TxPlan,
-}
+/// A run of this ring.
+type TxRun<'a> = Run<'a, TxRing, TxPlan>;
 
 /// The results of both threads.
 #[derive(Drop)]
@@ -76,11 +71,7 @@ pub fn send_frames<R: Threads + Wait + Clock + Sync>(
     ensure!(plan.report != 0, "report");
     let frame = frame_of(alloc, plan.load.size)?;
     let Track { ring, sides } = supplied(alloc, plan)?;
-    let run = Run {
-        ring: &ring,
-        frame: frame.as_slice(),
-        plan,
-    };
+    let run = Run::new(&ring, frame.as_slice(), plan);
     let sent = send_run(rt, run, sides);
     drop(ring);
     sent
@@ -104,7 +95,7 @@ fn supplied(alloc: Global, plan: TxPlan) -> Result<Track>
 /// Sends the run's frames, and returns the time.
 fn send_run<R: Threads + Wait + Clock + Sync>(
     rt: &R,
-    run: Run<'_>,
+    run: TxRun<'_>,
     sides: Sides,
 ) -> Result<Timed<Ends>>
     requires { CanSend run.ring.now run.plan run.frame.now sides.ends.driver sides.ends.controller sides.stock }
@@ -117,28 +108,18 @@ fn send_run<R: Threads + Wait + Clock + Sync>(
 }
 
 /// Lets the ends meet, and checks that the frames sent are the frames posted.
-fn finish(run: Run<'_>, dispatch: Dispatch, spent: Duration) -> Result<Timed<Ends>>
+fn finish(run: TxRun<'_>, dispatch: Dispatch, spent: Duration) -> Result<Timed<Ends>>
     requires driver { PostedAll run.ring.now run.plan run.frame.now dispatch.posted.driver }
     requires controller { HasServed run.ring.now run.plan.completion dispatch.sent.controller }
     ensures { IfOk result (λ p. HasSent run.entry.plan run.entry.frame.now p.done.driver p.done.controller) }
 {
-    let seen = see_all_sent(run, dispatch.sent.tally);
+    let tally = dispatch.sent.tally;
     let done = meet(run, dispatch);
-    let (_, done) = both(seen, Ok(done))?;
-    Ok(Timed { done, spent })
-}
-
-/// Checks that the controller read the bytes of the frames.
-fn see_all_sent(run: Run<'_>, tally: Tally) -> Result<()> {
-    ensure!(
-        tally == Tally::of(run.frame, run.plan.load.frames),
-        "the frames that were sent are not those that were posted"
-    );
-    Ok(())
+    Timed::checked(tally, run.frame, run.plan.load.frames, done, spent)
 }
 
 /// Lets the ends meet.
-fn meet(run: Run<'_>, dispatch: Dispatch) -> Ends
+fn meet(run: TxRun<'_>, dispatch: Dispatch) -> Ends
     requires driver { PostedAll run.ring.now run.plan run.frame.now dispatch.posted.driver }
     requires controller { HasServed run.ring.now run.plan.completion dispatch.sent.controller }
     ensures { HasSent run.entry.plan run.entry.frame.now result.driver result.controller }
@@ -150,7 +131,7 @@ fn meet(run: Run<'_>, dispatch: Dispatch) -> Ends
 }
 
 /// Runs both ends, the controller's in its own thread, and joins it.
-fn in_threads<R: Threads + Wait + Sync>(rt: &R, run: Run<'_>, sides: Sides) -> Result<Dispatch>
+fn in_threads<R: Threads + Wait + Sync>(rt: &R, run: TxRun<'_>, sides: Sides) -> Result<Dispatch>
     requires { CanSend run.ring.now run.plan run.frame.now sides.ends.driver sides.ends.controller sides.stock }
     ensures driver { IfOk result (λ d. PostedAll run.entry.ring.now run.entry.plan run.entry.frame.now d.posted.driver) }
     ensures controller { IfOk result (λ d. HasServed run.entry.ring.now run.entry.plan.completion d.sent.controller) }

@@ -13,7 +13,7 @@ pub struct TxPlan {
 }
 
 /// The usage, printed when the command line is wrong.
-pub const USAGE: &str =
+const USAGE: &str =
     "Usage: ring_bench tx --ring N --frames N --size N --report N --completion status|head
 
 Passes frames through a transmit ring with a thread at each end. Prints the cost of a frame.
@@ -27,8 +27,12 @@ Passes frames through a transmit ring with a thread at each end. Prints the cost
 Example:
   ring_bench tx --ring 512 --frames 1000000 --size 60 --report 32 --completion status";
 
-/// Parses the words after the program's name: each option once with its value.
-pub fn plan_of(options: &[String]) -> Option<TxPlan> {
+/// Parses the options, each once with its value. The error is the usage.
+pub fn plan_of(options: &[String]) -> Result<TxPlan, &'static str> {
+    parsed(options).ok_or(USAGE)
+}
+
+fn parsed(options: &[String]) -> Option<TxPlan> {
     let load = load_of(options, 10)?;
     Some(TxPlan {
         load,

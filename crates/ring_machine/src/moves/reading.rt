@@ -2,12 +2,13 @@
 
 ghost use Rattle.std.specs.Prelude.{◌≡◌, ◌↔◌, ◌<◌, ◌+◌, ℕ, Bool, [], ◌∷◌, codes, Ok, Some, IfErr};
 ghost use Rattle.ring_machine.specs.code.Fields.{Spells, SpellsRx, SpellsTx};
-ghost use Rattle.ring_machine.specs.text.Moves.{IsInRange, text_of};
+ghost use Rattle.ring_machine.specs.text.Moves.{IsInRange, control_kind, text_of};
 ghost use Rattle.ring_model.specs.shared.Agreement.{bit};
 ghost use Rattle.ring_model.specs.transmit.Ring.{Posting};
 ghost use Rattle.refusals.specs.declared.errors.MachineError.TheVariants.{Text};
 ghost use Rattle.limits.specs.declared.profile.TheConstants.{MOST_PAIRS};
 ghost use Rattle.ring_machine.specs.declared.moves.Move.{Move};
+ghost use Rattle.ring_model.specs.declared.steps.ControlStep.{ControlStep};
 ghost use Rattle.ring_model.specs.declared.steps.RxStep.{RxStep};
 ghost use Rattle.ring_model.specs.declared.steps.TxStep.{TxStep};
 
@@ -98,18 +99,13 @@ fn plain_rx_step(kind: &[u8]) -> Option<RxStep<SegmentLength>>
         b"A4" => Some(RxStep::Fetch),
         b"A6" => Some(RxStep::Take),
         b"A7" => Some(RxStep::Head),
-        b"C1" => Some(RxStep::Control(ControlStep::AskEnable)),
-        b"C2" => Some(RxStep::Control(ControlStep::LookAsked)),
-        b"C3" => Some(RxStep::Control(ControlStep::Answer)),
-        b"C4" => Some(RxStep::Control(ControlStep::LookAnswered)),
-        b"C5" => Some(RxStep::Control(ControlStep::AskDisable)),
         b"C6" => Some(RxStep::Reclaim),
         b"C7" => Some(RxStep::StoreQuiet),
         b"C8" => Some(RxStep::LoadQuiet),
         b"C9" => Some(RxStep::ClearHead),
         b"C10" => Some(RxStep::ClearTail),
         b"C11" => Some(RxStep::ClearQuiet),
-        _ => None,
+        _ => Some(RxStep::Control(control_of(kind)?)),
     }
 }
 
@@ -153,15 +149,24 @@ fn plain_tx_step(kind: &[u8]) -> Option<TxStep<SegmentDescriptor>>
         b"B6" => Some(TxStep::Report),
         b"B7" => Some(TxStep::LoadReport),
         b"B8" => Some(TxStep::Clean),
-        b"C1" => Some(TxStep::Control(ControlStep::AskEnable)),
-        b"C2" => Some(TxStep::Control(ControlStep::LookAsked)),
-        b"C3" => Some(TxStep::Control(ControlStep::Answer)),
-        b"C4" => Some(TxStep::Control(ControlStep::LookAnswered)),
-        b"C5" => Some(TxStep::Control(ControlStep::AskDisable)),
         b"C6" => Some(TxStep::Reclaim),
         b"C9" => Some(TxStep::ClearHead),
         b"C10" => Some(TxStep::ClearTail),
         b"C12" => Some(TxStep::ClearReport),
+        _ => Some(TxStep::Control(control_of(kind)?)),
+    }
+}
+
+// The step of this kind that enables or disables a queue.
+fn control_of(kind: &[u8]) -> Option<ControlStep>
+    ensures { (s : ControlStep) → (result ≡ Some s) ↔ (kind.now ≡ control_kind s) }
+{
+    match kind {
+        b"C1" => Some(ControlStep::AskEnable),
+        b"C2" => Some(ControlStep::LookAsked),
+        b"C3" => Some(ControlStep::Answer),
+        b"C4" => Some(ControlStep::LookAnswered),
+        b"C5" => Some(ControlStep::AskDisable),
         _ => None,
     }
 }

@@ -1,9 +1,11 @@
 //! The pairs: a kind of move, the states of both sides, and its outcome.
 ghost use Rattle.std.specs.Prelude.{◌≡◌, ◌<◌, Some};
-ghost use Rattle.schedules.specs.Pairs.{controller_number, controller_words, driver_number, driver_words, pair_text, states_text};
+ghost use Rattle.schedules.specs.Pairs.{controller_number, driver_number, pair_text, states_text};
 
 use crate::covering::outcome::OutcomeKind;
-use ring_machine::{ControlStep, ControllerState, DriverState, Move, RxStep, TxStep};
+use ring_machine::{
+    ControlStep, ControllerState, DriverState, Move, RxStep, TxStep, controller_word, driver_word,
+};
 use std::fmt;
 
 /// A kind of move, the states of driver and controller in which it is tried, and its outcome.
@@ -48,30 +50,10 @@ impl fmt::Display for States {
         write!(
             f,
             "driver {} controller {}",
-            driver_words(self.driver),
-            controller_words(self.controller)
+            driver_word(self.driver),
+            controller_word(self.controller)
         )
     }
-}
-
-/// The words of a driver's states, in their order.
-const DRIVER_WORDS: [&str; 7] = [
-    "New", "Asked", "On", "Stopping", "Stopped", "Cleared", "Tailed",
-];
-
-fn driver_words(state: DriverState) -> &'static str
-    ensures { result.now ≡ driver_words state }
-{
-    DRIVER_WORDS[state as usize]
-}
-
-/// The words of a controller's states, in their order.
-const CONTROLLER_WORDS: [&str; 3] = ["off", "serving", "ended"];
-
-fn controller_words(state: ControllerState) -> &'static str
-    ensures { result.now ≡ controller_words state }
-{
-    CONTROLLER_WORDS[state as usize]
 }
 
 /// The number of distinct pairs of one side: kinds of moves, states of both sides, kinds of outcomes.

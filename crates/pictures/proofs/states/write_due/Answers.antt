@@ -1,12 +1,9 @@
 -- The bit is whether a report is due.
-use Rattle.std.proofs.Common.{◌≡◌, ◌∙◌, Bool, true, false, refl, ap, sym}
+use Rattle.std.proofs.Common.{◌≡◌, ◌∙◌, ap, sym}
 use Rattle.std.specs.Int.{from_bool}
 use Rattle.ring_model.specs.shared.Agreement.{bit}
+use Rattle.pictures.proofs.Joining.{bit_is}
 use Rattle.pictures.proofs.states.write_due.Goals as goal
-
-bit_is : (b : Bool) → bit b ≡ from_bool b
-bit_is true = refl
-bit_is false = refl
 
 pub returns : goal.returns
 returns c =

@@ -1,9 +1,10 @@
 //! Worked rows of a receive ring, by calls.
 
+use crate::tests::expected::{Expected, NOTHING, noted};
 use crate::tests::receive::calls::both::Both;
 use crate::tests::steps::{RxNamed, rx_step};
 use crate::tests::wanted::same;
-use crate::{Beside, Tells, disable, enable, told_so};
+use crate::{Beside, Tells, YesOrNo, disable, enable, told_so};
 use buffer_pool::Buf;
 use ring_model::{ControlStep, Note, RxStep, TakenSegment};
 use rx_ring::{ControllerEnd, DriverEnd, RingError, RxDriverEnd, RxRing};
@@ -31,26 +32,6 @@ pub(crate) enum Act {
     Counts,
     HasFinished,
     IsOff,
-}
-
-/// The result of an action.
-#[derive(Clone, Copy, PartialEq)]
-pub(crate) enum Expected {
-    True,
-    False,
-    Note(Option<Note>),
-    Count(u32),
-    Counts(Option<(u32, u32)>),
-}
-
-impl Expected {
-    fn whether(holds: bool) -> Expected {
-        if holds {
-            Expected::True
-        } else {
-            Expected::False
-        }
-    }
 }
 
 /// The state of a driver.
@@ -194,10 +175,7 @@ fn comes_to<R: Abort>(rt: &R, alloc: Global, rows: &[Row]) -> Option<usize> {
 const ROUND: &[Row] = &[
     (Act::Enable, Expected::True),
     (Act::Times(7, RxStep::Post(0)), Expected::Count(7)),
-    (
-        Act::Make(RxStep::Publish),
-        Expected::Note(Some(Note::Tail(0))),
-    ),
+    noted!(RxStep::Publish, Note::Tail(0)),
     (Act::GoRound(21), Expected::Count(21)),
     (Act::Counts, Expected::Counts(Some((21, 21)))),
     (Act::Disable, Expected::True),
@@ -208,9 +186,6 @@ const ROUND: &[Row] = &[
 fn frames_with_heads_go_round(rt: HostRuntime) {
     same(&rt, comes_to(&rt, rt.alloc(), ROUND), Some(4));
 }
-
-/// The step cannot be made.
-const NOTHING: Expected = Expected::Note(None);
 
 /// A step of the handshake, with the driver's state after it and the value of the control word.
 macro_rules! after_control_step {
@@ -260,23 +235,11 @@ const TAKEN: TakenSegment = TakenSegment {
 const TWO_LEFT: &[Row] = &[
     (Act::Enable, Expected::True),
     (Act::Times(7, RxStep::Post(0)), Expected::Count(7)),
-    (
-        Act::Make(RxStep::Publish),
-        Expected::Note(Some(Note::Tail(0))),
-    ),
+    noted!(RxStep::Publish, Note::Tail(0)),
     (Act::Stores(3), Expected::Count(3)),
-    (
-        Act::Make(RxStep::Take),
-        Expected::Note(Some(Note::Taken(Some(TAKEN)))),
-    ),
-    (
-        Act::Make(RxStep::Post(0)),
-        Expected::Note(Some(Note::Place(0))),
-    ),
-    (
-        Act::Make(RxStep::Publish),
-        Expected::Note(Some(Note::Tail(0))),
-    ),
+    noted!(RxStep::Take, Note::Taken(Some(TAKEN))),
+    noted!(RxStep::Post(0), Note::Place(0)),
+    noted!(RxStep::Publish, Note::Tail(0)),
     (Act::Disable, Expected::True),
     (Act::Left, Expected::Counts(Some((2, 2)))),
     (Act::Make(RxStep::Take), NOTHING),
@@ -297,34 +260,16 @@ const QUIET: &[Row] = &[
     (Act::Make(RxStep::StoreQuiet), NOTHING),
     (Act::Enable, Expected::True),
     (Act::Times(2, RxStep::Post(0)), Expected::Count(2)),
-    (
-        Act::Make(RxStep::Publish),
-        Expected::Note(Some(Note::Tail(0))),
-    ),
+    noted!(RxStep::Publish, Note::Tail(0)),
     (Act::Stores(1), Expected::Count(1)),
-    (
-        Act::Make(RxStep::LoadQuiet),
-        Expected::Note(Some(Note::Quiet(0))),
-    ),
-    (
-        Act::Make(RxStep::StoreQuiet),
-        Expected::Note(Some(Note::Quiet(1))),
-    ),
+    noted!(RxStep::LoadQuiet, Note::Quiet(0)),
+    noted!(RxStep::StoreQuiet, Note::Quiet(1)),
     (Act::HasFinished, Expected::True),
-    (Act::Make(RxStep::Look), Expected::Note(Some(Note::Free(1)))),
+    noted!(RxStep::Look, Note::Free(1)),
     (Act::Make(RxStep::Fetch), NOTHING),
-    (
-        Act::Make(RxStep::LoadQuiet),
-        Expected::Note(Some(Note::Quiet(1))),
-    ),
-    (
-        Act::Make(RxStep::Take),
-        Expected::Note(Some(Note::Taken(Some(TAKEN)))),
-    ),
-    (
-        Act::Make(RxStep::Take),
-        Expected::Note(Some(Note::Taken(None))),
-    ),
+    noted!(RxStep::LoadQuiet, Note::Quiet(1)),
+    noted!(RxStep::Take, Note::Taken(Some(TAKEN))),
+    noted!(RxStep::Take, Note::Taken(None)),
 ];
 
 #[test]

@@ -1,9 +1,10 @@
 //! Worked rows by calls in one thread, in both completions.
 
+use crate::tests::expected::{Expected, NOTHING, noted};
 use crate::tests::steps::TxNamed;
 use crate::tests::transmit::calls::both::{Both, Step, step_of};
 use crate::tests::wanted::same;
-use crate::{Beside, Tells, disable, enable, makes, told_so};
+use crate::{Beside, Tells, YesOrNo, disable, enable, makes, told_so};
 use ring_machine::SegmentDescriptor;
 use ring_model::{FetchedSegment, Note, TxStep};
 use std::alloc::Global;
@@ -19,6 +20,8 @@ pub(crate) enum Act {
     Make(TxNamed),
     /// Posts a whole frame of 60 bytes, with RS or without.
     Post(bool),
+    /// Makes a step that returns a buffer, until none is left: whether it returned these.
+    Returns(TxNamed, &'static [u16]),
     /// Makes a report in the way of the ring's completion.
     Report,
     Enable,
@@ -29,25 +32,6 @@ pub(crate) enum Act {
     Words(Worded),
     /// Lets the ends meet.
     Meet,
-}
-
-/// The result of an action.
-#[derive(Clone, Copy, PartialEq)]
-pub(crate) enum Expected {
-    True,
-    False,
-    Note(Option<Note>),
-    Counts(Option<(u32, u32)>),
-}
-
-impl Expected {
-    fn whether(holds: bool) -> Expected {
-        if holds {
-            Expected::True
-        } else {
-            Expected::False
-        }
-    }
 }
 
 /// A posting with these values.
@@ -64,6 +48,16 @@ fn is_reported(both: &mut Both) -> bool {
     both.call(TxStep::Report) == Some(wanted)
 }
 
+/// Whether the step returns these buffers, and no other.
+fn returns(both: &mut Both, step: TxNamed, buffers: &[u16]) -> bool {
+    for number in buffers {
+        if both.call(step_of(step)) != Some(Note::Buffer(*number)) {
+            return false;
+        }
+    }
+    both.call(step_of(step)).is_none()
+}
+
 impl Tells for Both {
     type Step = Act;
 
@@ -73,6 +67,7 @@ impl Tells for Both {
         match act {
             Act::Make(step) => Expected::Note(self.call(step_of(step))),
             Act::Post(rs) => Expected::Note(self.call(posting(60, true, rs, 60))),
+            Act::Returns(step, buffers) => Expected::whether(returns(self, step, buffers)),
             Act::Report => Expected::whether(is_reported(self)),
             Act::Enable => Expected::whether(enable(self)),
             Act::Disable => Expected::whether(disable(self)),
@@ -103,9 +98,6 @@ fn come_out<R: Abort>(rt: &R, alloc: Global, n: u32, rows: &[Row]) {
     }
 }
 
-/// The step cannot be made.
-const NOTHING: Expected = Expected::Note(None);
-
 /// The report is made. Its place is 0, since no call returns one.
 const REPORTED: Expected = Expected::Note(Some(Note::Reported(Some(0))));
 
@@ -128,24 +120,15 @@ macro_rules! sending {
 const ONE: &[Row] = &[
     (Act::Enable, Expected::True),
     (Act::Post(true), Expected::Note(Some(Note::Place(0)))),
-    (
-        Act::Make(TxStep::Publish),
-        Expected::Note(Some(Note::Tail(0))),
-    ),
+    noted!(TxStep::Publish, Note::Tail(0)),
     (Act::Make(TxStep::LoadReport), NOTHING),
-    (
-        Act::Make(TxStep::Look),
-        Expected::Note(Some(Note::Ready(1))),
-    ),
+    noted!(TxStep::Look, Note::Ready(1)),
     (Act::Make(TxStep::Fetch), sending!(31, true)),
-    (Act::Make(TxStep::Send), Expected::Note(Some(Note::Head(0)))),
+    noted!(TxStep::Send, Note::Head(0)),
     (Act::Make(TxStep::LoadReport), NOTHING),
     (Act::Report, Expected::True),
     (Act::Make(TxStep::LoadReport), REPORTED),
-    (
-        Act::Make(TxStep::Clean),
-        Expected::Note(Some(Note::Buffer(31))),
-    ),
+    noted!(TxStep::Clean, Note::Buffer(31)),
     (Act::Meet, Expected::True),
 ];
 
@@ -154,32 +137,18 @@ const TWO: &[Row] = &[
     (Act::Enable, Expected::True),
     (Act::Post(false), Expected::Note(Some(Note::Place(0)))),
     (Act::Post(true), Expected::Note(Some(Note::Place(0)))),
-    (
-        Act::Make(TxStep::Publish),
-        Expected::Note(Some(Note::Tail(0))),
-    ),
-    (
-        Act::Make(TxStep::Look),
-        Expected::Note(Some(Note::Ready(2))),
-    ),
+    noted!(TxStep::Publish, Note::Tail(0)),
+    noted!(TxStep::Look, Note::Ready(2)),
     (Act::Make(TxStep::Fetch), sending!(31, false)),
-    (Act::Make(TxStep::Send), Expected::Note(Some(Note::Head(0)))),
+    noted!(TxStep::Send, Note::Head(0)),
     (Act::Make(TxStep::Report), NOTHING),
     (Act::Make(TxStep::Fetch), sending!(30, true)),
-    (Act::Make(TxStep::Send), Expected::Note(Some(Note::Head(0)))),
+    noted!(TxStep::Send, Note::Head(0)),
     (Act::Make(TxStep::Clean), NOTHING),
     (Act::Report, Expected::True),
     (Act::Make(TxStep::LoadReport), REPORTED),
     (Act::Make(TxStep::LoadReport), NOTHING),
-    (
-        Act::Make(TxStep::Clean),
-        Expected::Note(Some(Note::Buffer(31))),
-    ),
-    (
-        Act::Make(TxStep::Clean),
-        Expected::Note(Some(Note::Buffer(30))),
-    ),
-    (Act::Make(TxStep::Clean), NOTHING),
+    (Act::Returns(TxStep::Clean, &[31, 30]), Expected::True),
     (Act::Meet, Expected::True),
 ];
 
@@ -199,33 +168,15 @@ const TWO_LEFT: &[Row] = &[
     POSTED,
     POSTED,
     POSTED,
-    (
-        Act::Make(TxStep::Publish),
-        Expected::Note(Some(Note::Tail(0))),
-    ),
-    (
-        Act::Make(TxStep::Look),
-        Expected::Note(Some(Note::Ready(3))),
-    ),
+    noted!(TxStep::Publish, Note::Tail(0)),
+    noted!(TxStep::Look, Note::Ready(3)),
     (Act::Make(TxStep::Fetch), sending!(31, false)),
-    (Act::Make(TxStep::Send), Expected::Note(Some(Note::Head(0)))),
+    noted!(TxStep::Send, Note::Head(0)),
     (Act::Disable, Expected::True),
     (Act::Left, Expected::Counts(Some((2, 2)))),
     (Act::Make(TxStep::LoadReport), NOTHING),
     (Act::Make(TxStep::Look), NOTHING),
-    (
-        Act::Make(TxStep::Reclaim),
-        Expected::Note(Some(Note::Buffer(31))),
-    ),
-    (
-        Act::Make(TxStep::Reclaim),
-        Expected::Note(Some(Note::Buffer(30))),
-    ),
-    (
-        Act::Make(TxStep::Reclaim),
-        Expected::Note(Some(Note::Buffer(29))),
-    ),
-    (Act::Make(TxStep::Reclaim), NOTHING),
+    (Act::Returns(TxStep::Reclaim, &[31, 30, 29]), Expected::True),
     (Act::Meet, Expected::True),
 ];
 
