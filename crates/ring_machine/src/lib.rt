@@ -1,6 +1,5 @@
 //! Receive and transmit queues of the 82599 as pure machines, with words and slots by place, and places that wrap.
-//! Depends on `ring_model`, whose types it re-exports, `ring_laws`, `descriptor`, `limits`, `refusals`, `arrayvec` and
-//! `text_lines`.
+//! Depends on `ring_model`, whose types it re-exports, `ring_laws`, `limits`, `refusals`, `arrayvec` and `text_lines`.
 //! Guarantees that a machine that agrees with a ring of `ring_model` agrees, after any schedule, with the ring after
 //! that schedule, and so do queues side by side with their world.
 //!

@@ -1,12 +1,20 @@
 -- The fields of transmit descriptors' words, and the first descriptor that asks for a report.
-use Rattle.std.specs.Prelude.{ℕ, zero, suc, ◌-◌, Bool, ◌||◌, ◌==◌, List, Option, Some, None, slice_index, if◌then◌else◌}
+use Rattle.std.specs.Prelude.{ℕ, zero, suc, ◌-◌, ◌/◌, ◌%◌, ◌^◌, Bool, ◌||◌, ◌==◌, List, Option, Some, None, slice_index, if◌then◌else◌}
 use Rattle.ring_model.specs.transmit.Agreement.{done_word}
 use Rattle.ring_model.specs.shared.Places.{place_next}
--- the fields of a descriptor's word
-pub use Rattle.descriptor.specs.Transmit.{len_of as word_len, eop_of as word_eop, rs_of as word_rs}
 
 abbrev pub place_before : ℕ → ℕ → ℕ
 place_before n p = if p == 0 then n - 1 else (p - 1)
+
+-- The fields of a descriptor's word.
+abbrev pub word_len : ℕ → ℕ
+word_len word = word % 2 ^ 16
+
+abbrev pub word_eop : ℕ → Bool
+word_eop word = word / 2 ^ 24 % 2 == 1
+
+abbrev pub word_rs : ℕ → Bool
+word_rs word = word / 2 ^ 27 % 2 == 1
 
 -- Whether the item asked for a report. A done word did, although its RS is gone.
 abbrev pub word_asks : ℕ → Bool
