@@ -11,7 +11,7 @@ use Rattle.clap.specs.declared.builder.command.Command.{Command}
 use Rattle.clap.specs.declared.builder.command.Command.TheViews.{out-Command}
 use Rattle.command_line.specs.Building.{BeginProgram, CompleteProgram, Grows, IsJoined, IsNew, Joins, entry_app, with_entries}
 use Rattle.command_line.proofs.CommandLine.{free, simple}
-use Rattle.command_line.specs.CommandLine.{AreParsed, Choices, IsBeginning, IsProgram, bare_app, beginning_app, program_app}
+use Rattle.command_line.specs.CommandLine.{AreParsed, Choices, IsBeginning, IsMade, IsProgram, bare_app, beginning_app, program_app}
 use Rattle.command_line.specs.OptionWords.{with_rules}
 use Rattle.command_line.specs.Params.{rule_for}
 use Rattle.command_line.specs.declared.arguments.Param.{Param}
@@ -69,10 +69,10 @@ pub all-entries : {E : Type 0} → (start : App) (entries : List CommandEntry) (
     → IfOk program (IsJoined start entries)
 all-entries start entries k program end before = subst (λ (es : List CommandEntry). IfOk program (IsJoined start es)) (take_all k entries end) before
 
--- a program with the first commands
-pub begins : (app : App) (rings formats : Choices) → app ≡ beginning_app rings formats → map (λ word. word.now) rings.now ≡ codes "rx" ∷ codes "tx" ∷ []
-    → map (λ word. word.now) formats.now ≡ codes "read" ∷ codes "back" ∷ [] → IsBeginning app
-begins app rings formats same rings_are formats_are =
+-- a program that is made with these choices
+pub made : (make : Choices → Choices → App) (app : App) (rings formats : Choices) → app ≡ make rings formats → map (λ word. word.now) rings.now ≡ codes "rx" ∷ codes "tx" ∷ []
+    → map (λ word. word.now) formats.now ≡ codes "read" ∷ codes "back" ∷ [] → IsMade make app
+made make app rings formats same rings_are formats_are =
     record { rings = rings; formats = formats; rings_are = rings_are; formats_are = formats_are; app_is = same }
 
 -- with its first commands
@@ -93,25 +93,14 @@ abbrev two_formats : Choices
 two_formats = choices (codes "read" ∷ codes "back" ∷ [])
 
 some_program : IsProgram (program_app two_rings two_formats)
-some_program = record {
-  rings = two_rings;
-  formats = two_formats;
-  rings_are = refl;
-  formats_are = refl;
-  app_is = refl;
-}
+some_program = made program_app (program_app two_rings two_formats) two_rings two_formats refl refl refl
 
 -- with all its commands
 pub program_is : {E F : Type 0} → (entries : List CommandEntry) (begun : Result Command F) (program : Result Command E) → CompleteProgram entries
     → IfOk begun (λ c. IsBeginning (app_of c)) → ((app : App) → IfOk begun (λ c. app_of c ≡ app) → IfOk program (IsJoined app entries))
     → IfOk program (λ p. IsProgram (app_of p))
-program_is entries (Ok b) (Ok p) same is joined = record {
-  rings = is.rings;
-  formats = is.formats;
-  rings_are = is.rings_are;
-  formats_are = is.formats_are;
-  app_is = (joined (beginning_app is.rings is.formats) is.app_is).app_is ∙ same is.rings is.formats;
-}
+program_is entries (Ok b) (Ok p) same is joined =
+    made program_app (app_of p) is.rings is.formats ((joined (beginning_app is.rings is.formats) is.app_is).app_is ∙ same is.rings is.formats) is.rings_are is.formats_are
 program_is entries (Err e) (Ok p) same is joined =
     subst IsProgram (sym ((joined (beginning_app two_rings two_formats) tt).app_is ∙ same two_rings two_formats)) some_program
 program_is entries begun (Err e) same is joined = tt

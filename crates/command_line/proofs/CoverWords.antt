@@ -4,7 +4,6 @@ use Rattle.std.specs.Prelude.{All, Option}
 use Rattle.clap.specs.Values.{bool_text}
 use Rattle.requests.specs.Replaying.{is_page}
 use Rattle.requests.specs.declared.replay.Pictures.{Pictures}
-use Rattle.requests.specs.declared.replay.Pictures.TheVariants.{Never}
 use Rattle.requests.specs.declared.replay.ReplayOutput.{ReplayOutput}
 use Rattle.clap.specs.Words.{App, Row, Text, subcommand_of, takes}
 use Rattle.requests.specs.declared.covers.CoverRequest.{CoverRequest}

@@ -8,7 +8,7 @@ use Rattle.settings.specs.declared.thresholds.Thresholds.{Thresholds}
 use Rattle.requests.specs.declared.lists.ScheduleRequest.{ScheduleRequest}
 use Rattle.command_line.specs.CommandLine.{IsProgram}
 use Rattle.command_line.specs.OptionWords.{HasFlag, is_head}
-use Rattle.command_line.specs.ScheduleWords.{HasDriver, HasLists, HasRecommended, HasSchedules, SaysDriver, SaysLists, last_words}
+use Rattle.command_line.specs.ScheduleWords.{HasDriver, HasLists, SaysDriver, SaysLists, last_words}
 use Rattle.command_line.proofs.CommandLine.{is_plain}
 use Rattle.command_line.proofs.OptionRows.{both-false}
 use Rattle.command_line.proofs.Options.{Given}
@@ -77,10 +77,12 @@ driver_read words request says rows each = record {
   moves = numeral_read rows (codes "moves") request.plan.moves says.moves_fits (each 6 no_option (omega arith));
   count = number_read rows _ _ _ _ _ _ (said_count says.count request.count says.says_count) (each 8 no_option (omega arith));
   queues = record {
-    ring = number_read rows _ _ _ _ _ _ (said_ring says.ring request.plan.ring says.says_ring) (each 9 no_option (omega arith));
-    pairs = number_read rows _ _ _ _ _ _ (said_pairs says.pairs request.plan.pairs says.says_pairs) (each 10 no_option (omega arith));
-    off = flag-left rows (codes "off") (not request.plan.enabled) (each 2 no_option (omega arith)).0 (ap not says.driven.enabled);
-    head = flag-left rows (codes "head") (is_head request.plan.completion) (each 3 no_option (omega arith)).0 (ap is_head says.driven.completion);
+    queues = record {
+      ring = number_read rows _ _ _ _ _ _ (said_ring says.ring request.plan.ring says.says_ring) (each 9 no_option (omega arith));
+      pairs = number_read rows _ _ _ _ _ _ (said_pairs says.pairs request.plan.pairs says.says_pairs) (each 10 no_option (omega arith));
+      off = flag-left rows (codes "off") (not request.plan.enabled) (each 2 no_option (omega arith)).0 (ap not says.driven.enabled);
+      head = flag-left rows (codes "head") (is_head request.plan.completion) (each 3 no_option (omega arith)).0 (ap is_head says.driven.completion);
+    };
     device_only = flag-left rows (codes "device-only-real") request.plan.device_only (each 15 no_option (omega arith)).0 says.driven.device_only;
   };
   expect =

@@ -1,7 +1,6 @@
 -- What words say of a limit, and how captures are read.
-use Rattle.std.proofs.Common.{◌≡◌, ◌∙◌, ap, ap₂, sym, refl, arith, ℕ, Bool, true, false, List, [], codes, Option, Some, None, option_map}
+use Rattle.std.proofs.Common.{◌≡◌, ◌∙◌, ap₂, sym, refl, arith, ℕ, Bool, true, false, List, [], codes, Option, Some, None, option_map}
 use Rattle.std.specs.Prelude.{decimal}
-use Rattle.clap.specs.Words.{Text}
 use Rattle.capture.specs.declared.options.ReadOptions.{ReadOptions}
 use Rattle.requests.specs.Files.{SourceFile}
 use Rattle.command_line.specs.FileWords.{lacks_captures}

@@ -1,5 +1,5 @@
 -- What clap makes of `schedules --recommended` and its options.
-use Rattle.std.proofs.Common.{◌≡◌, ◌∙◌, ap, ap₂, refl, arith, true, false, List, [], ◌∷◌, ◌++◌, codes, None}
+use Rattle.std.proofs.Common.{◌∙◌, ap, ap₂, refl, arith, true, false, List, [], ◌∷◌, ◌++◌, codes, None}
 use Rattle.std.specs.Prelude.{All, not}
 use Rattle.clap.specs.Words.{Row, Text}
 use Rattle.requests.specs.declared.lists.ScheduleRequest.{ScheduleRequest}

@@ -122,10 +122,12 @@ replay_found app words plan program says =
       found.0,
       found.1,
       record {
-        ring = record { value = found.2 0 none (omega arith) ∙ ring.value; fits = ring.fits };
-        pairs = record { value = found.2 1 none (omega arith) ∙ pairs.value; fits = pairs.fits };
-        off = found.2 2 none (omega arith);
-        head = found.2 3 none (omega arith);
+        queues = record {
+          ring = record { value = found.2 0 none (omega arith) ∙ ring.value; fits = ring.fits };
+          pairs = record { value = found.2 1 none (omega arith) ∙ pairs.value; fits = pairs.fits };
+          off = found.2 2 none (omega arith);
+          head = found.2 3 none (omega arith);
+        };
         lists = found.2 4 none (omega arith);
         shown = record {
           json = found.2 5 none (omega arith);

@@ -96,4 +96,4 @@ expect_read rows expect stands json registers page expected = record { stands = 
 pub queues_read : (rows : List Row) (plan : SchedulePlan) → HasNumber rows (codes "ring") plan.ring → HasNumber rows (codes "pairs") plan.pairs
     → IsRead rows (flag (codes "off") (not plan.enabled)) → IsRead rows (flag (codes "head") (is_head plan.completion))
     → IsRead rows (flag (codes "device-only-real") plan.device_only) → HasQueues rows plan
-queues_read rows plan ring pairs off head device_only = record { ring = ring; pairs = pairs; off = off.0; head = head.0; device_only = device_only.0 }
+queues_read rows plan ring pairs off head device_only = record { queues = record { ring = ring; pairs = pairs; off = off.0; head = head.0 }; device_only = device_only.0 }

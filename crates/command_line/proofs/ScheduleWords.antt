@@ -1,5 +1,5 @@
 -- What clap makes of `schedules` with a seed and a number of moves.
-use Rattle.std.proofs.Common.{◌≡◌, ◌∙◌, ap, ap₂, refl, arith, false, ℕ, List, [], ◌∷◌, ◌++◌, codes, Some}
+use Rattle.std.proofs.Common.{◌∙◌, ap, ap₂, refl, arith, false, ℕ, List, [], ◌∷◌, ◌++◌, codes, Some}
 use Rattle.std.specs.Prelude.{All, decimal, not}
 use Rattle.std.specs.Fmt.{digits}
 use Rattle.clap.specs.Words.{Row, Text}

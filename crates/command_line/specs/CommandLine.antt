@@ -1,5 +1,5 @@
 -- The program's command line as clap reads it.
-use Rattle.std.specs.Prelude.{◌≡◌, ◌≢◌, Bool, true, false, not, ◌&&◌, List, [], ◌∷◌, ◌++◌, codes, fold, map, slice_index, Some, All, Result, IfOk, IfErr}
+use Rattle.std.specs.Prelude.{◌≡◌, ◌≢◌, Bool, true, not, List, [], ◌∷◌, ◌++◌, codes, fold, map, slice_index, Some, All, Result, IfOk, IfErr}
 use Rattle.std.specs.Borrow.{Bor}
 use Rattle.clap.specs.Words.{App, FailsBy, Kinds, Row, Rule, Text, fault_of, first_of, kind_of, new_app, new_rule, subcommand_of, subcommand_rows_of, takes, with_subcommand}
 use Rattle.clap.specs.declared.error.Error.{Error}
@@ -16,7 +16,7 @@ use Rattle.settings.specs.declared.config.Config.{Config}
 use Rattle.requests.specs.declared.printing.Printing.{Printing}
 use Rattle.requests.specs.Conversions.{IsPlaced}
 use Rattle.requests.specs.declared.conversion.CaptureRequest.{CaptureRequest}
-use Rattle.command_line.specs.OptionWords.{HasFlag, HasNumber, SaysNumber, draws_any, explain_rule, explain_words, flag_rule, flag_words, is_head, number_rule, optional_rule, picture_value, picture_words, queue_rules, with_rules}
+use Rattle.command_line.specs.OptionWords.{HasFlag, HasNumber, HasQueueRows, SaysNumber, explain_rule, explain_words, flag_rule, flag_words, is_head, number_rule, optional_rule, picture_words, queue_rules, with_rules}
 use Rattle.command_line.specs.ScheduleWords.{schedules_app}
 use Rattle.command_line.specs.ShownWords.{HasShown, IsSayable, says_json, says_registers}
 use Rattle.requests.specs.Replaying.{is_page}
@@ -190,10 +190,7 @@ pub record HasDecode (rows : List Row) (form : DescriptorForm) (digits : Text) :
   pub hex : first_of (codes "hex") rows ≡ Some digits
 
 pub record HasReplay (rows : List Row) (plan : QueuePlan) : Type 0 where
-  pub ring : HasNumber rows (codes "ring") plan.ring
-  pub pairs : HasNumber rows (codes "pairs") plan.pairs
-  pub off : HasFlag rows (codes "off") (not plan.enabled)
-  pub head : HasFlag rows (codes "head") (is_head plan.completion)
+  pub queues : HasQueueRows rows plan.ring plan.pairs plan.enabled plan.completion
   pub lists : HasFlag rows (codes "lists") plan.lists
   pub shown : HasShown rows plan.shown
 

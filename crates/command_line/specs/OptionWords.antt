@@ -1,5 +1,5 @@
 -- Commands, options and flags: the clap rule of each, its words, and its values.
-use Rattle.std.specs.Prelude.{◌≡◌, ◌⊎◌, ℕ, ◌^◌, ◌<◌, Bool, true, false, if◌then◌else◌, pos, List, [], ◌∷◌, codes, decimal, fold, is_some, Option, Some, None}
+use Rattle.std.specs.Prelude.{◌≡◌, ◌⊎◌, ℕ, ◌^◌, ◌<◌, Bool, true, false, if◌then◌else◌, pos, List, [], ◌∷◌, codes, decimal, fold, is_some, not, Option, Some, None}
 use Rattle.clap.specs.Words.{App, Row, Rule, Text, new_app, new_rule, one_of, with_rule}
 use Rattle.clap.specs.Values.{bool_text}
 use Rattle.clap.specs.declared.builder.action.ArgAction.TheVariants.{SetTrue}
@@ -75,6 +75,14 @@ explain_words explained = flag_words (codes "--explain") explained
 abbrev pub is_head : Completion → Bool
 is_head Head = true
 is_head Status = false
+
+-- the values of the options of a list of moves for its queues: how many pairs of rings of this length, whether they are
+-- enabled at the start, and how a transmit queue reports
+pub record HasQueueRows (rows : List Row) (length count : ℕ) (enabled : Bool) (completion : Completion) : Type 0 where
+  pub ring : HasNumber rows (codes "ring") length
+  pub pairs : HasNumber rows (codes "pairs") count
+  pub off : HasFlag rows (codes "off") (not enabled)
+  pub head : HasFlag rows (codes "head") (is_head completion)
 
 -- the words of pictures, and the option's value
 abbrev pub picture_words : Pictures → List Text

@@ -15,7 +15,7 @@ use Rattle.settings.specs.Thresholds.{Fit, IsThresholds}
 use Rattle.settings.specs.declared.thresholds.Thresholds.{Thresholds}
 use Rattle.requests.specs.Lists.{shows_page}
 use Rattle.requests.specs.declared.lists.ScheduleRequest.{ScheduleRequest}
-use Rattle.command_line.specs.OptionWords.{HasFlag, HasNumber, SaysNumber, SaysNumberBelow, bounded_rule, explain_rule, explain_words, flag_rule, flag_words, is_head, number_rule, queue_rules, with_rules, word_rule}
+use Rattle.command_line.specs.OptionWords.{HasFlag, HasNumber, HasQueueRows, SaysNumber, SaysNumberBelow, bounded_rule, explain_rule, explain_words, flag_rule, flag_words, is_head, number_rule, queue_rules, with_rules, word_rule}
 use Rattle.command_line.specs.ShownWords.{says_json, says_registers}
 
 -- A required number, and a percentage.
@@ -210,10 +210,7 @@ pub record HasExpect (rows : List Row) (expect : Option ReplayOutput) : Type 0 w
   pub expected : IsExpected expect
 
 pub record HasQueues (rows : List Row) (plan : SchedulePlan) : Type 0 where
-  pub ring : HasNumber rows (codes "ring") plan.ring
-  pub pairs : HasNumber rows (codes "pairs") plan.pairs
-  pub off : HasFlag rows (codes "off") (not plan.enabled)
-  pub head : HasFlag rows (codes "head") (is_head plan.completion)
+  pub queues : HasQueueRows rows plan.ring plan.pairs plan.enabled plan.completion
   pub device_only : HasFlag rows (codes "device-only-real") plan.device_only
 
 pub record HasSchedules (rows : List Row) (request : ScheduleRequest) : Type 0 where

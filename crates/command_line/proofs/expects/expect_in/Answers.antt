@@ -1,6 +1,6 @@
 -- The four flags tell what is expected.
 use Rattle.std.proofs.Common.{◌≡◌, ◌∙◌, refl, Bool, true, false, ◌&&◌, Option, Some, None}
-use Rattle.std.specs.Prelude.{is_some, not}
+use Rattle.std.specs.Prelude.{not}
 use Rattle.requests.specs.Replaying.{is_page}
 use Rattle.requests.specs.declared.replay.Pictures.{Pictures}
 use Rattle.requests.specs.declared.replay.Pictures.TheVariants.{Never, Each, Last, States, Page}

@@ -17,6 +17,6 @@ from-parts plan k n b c m r d t pairs_are ring_is enabled_is completion_is moves
 pub returns-clause-said : goal.returns-clause-said
 returns-clause-said c plan has moves_are refused_are driver_is =
     ap (λ (p : SchedulePlan). Some p)
-    (from-parts plan _ _ _ _ _ _ _ _ (c.in_ok-pairs.ensures plan.pairs has.pairs) (c.in_ok-ring.ensures plan.ring has.ring)
-    (begins_as plan.enabled _ (c.flag_in-enabled.ensures (not plan.enabled) has.off)) (c.completion_in-completion.ensures plan.completion has.head)
+    (from-parts plan _ _ _ _ _ _ _ _ (c.in_ok-pairs.ensures plan.pairs has.queues.pairs) (c.in_ok-ring.ensures plan.ring has.queues.ring)
+    (begins_as plan.enabled _ (c.flag_in-enabled.ensures (not plan.enabled) has.queues.off)) (c.completion_in-completion.ensures plan.completion has.queues.head)
     moves_are refused_are (c.flag_in-device_only.ensures plan.device_only has.device_only) driver_is)

@@ -1,5 +1,5 @@
 -- The four options say the form.
-use Rattle.std.proofs.Common.{◌≡◌, ◌∙◌, ap, ap₂, refl, sym, Bool, true, false, ◌&&◌, Option, Some, None, unwrap_or}
+use Rattle.std.proofs.Common.{◌≡◌, ◌∙◌, ap, refl, Bool, true, false, ◌&&◌, Option, Some, unwrap_or}
 use Rattle.std.specs.Prelude.{not}
 use Rattle.requests.specs.Replaying.{is_page}
 use Rattle.requests.specs.declared.replay.Pictures.{Pictures}
