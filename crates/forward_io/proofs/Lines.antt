@@ -3,16 +3,17 @@ use Rattle.std.proofs.Common.{◌≡◌, ◌∙◌, ℕ, Bool, false, true, ◌+
 use Rattle.std.proofs.lemmas.Grind.{flat_map-append}
 use Rattle.std.proofs.lemmas.List.{append_assoc, append-nil, at_drop_all, at_drop_more}
 use Rattle.counters.specs.declared.flow_counters.Counter.{Counter}
-use Rattle.counters.specs.FlowCounters.{Entry, entries, entry_of}
+use Rattle.counters.specs.FlowCounters.{entries, entry_of}
 use Rattle.forwarding.specs.declared.report.FlowReport.{FlowReport}
 use Rattle.forwarding.specs.Reported.{counters_of}
 use Rattle.wire_script.specs.Frame.{Frame, frame_of}
 use Rattle.wire_script.specs.Script.{line_for, text_for}
 use Rattle.forwarding.specs.Peers.{peer, place}
+use Rattle.forward_io.specs.Counts.{counter_text, counter_texts}
 use Rattle.forward_io.specs.Leaving.{leaving}
-use Rattle.forward_io.specs.Objects.{counter_members, direction_members, end_members, ended_member, flow_object, port_object, port_objects, remaining_members, sums_of}
+use Rattle.forward_io.specs.Objects.{direction_members, end_members, ended_member, flow_object, port_object, port_objects, remaining_members, sums_of}
 use Rattle.forward_io.specs.declared.sums.PortSums.{PortSums}
-use Rattle.forward_io.specs.Text.{both_text, counter_words, ending_words, flow_line, flow_text, flow_texts, place_words, report_text, wires_from, wires_text}
+use Rattle.forward_io.specs.Text.{both_text, ending_words, flow_line, flow_text, flow_texts, place_words, report_text, wires_from, wires_text}
 use Rattle.requests.specs.declared.printing.Printing.{Printing}
 
 -- a part more, where the rest begins with it
@@ -20,10 +21,10 @@ part-more : (part rest before after whole : List ℕ) → before ++ (part ++ res
 part-more part rest before after whole is grown = ap (λ (t : List ℕ). t ++ rest) grown ∙ (append_assoc before part rest ∙ is)
 
 -- the three parts of a flow's line
-pub line-written : (port queue : ℕ) (r : FlowReport) (before t1 t2 t3 : List ℕ) → t1 ≡ before ++ place_words port queue → t2 ≡ t1 ++ counter_words (entries (counters_of r))
+pub line-written : (port queue : ℕ) (r : FlowReport) (before t1 t2 t3 : List ℕ) → t1 ≡ before ++ place_words port queue → t2 ≡ t1 ++ counter_texts false (entries (counters_of r))
     → t3 ≡ t2 ++ ending_words r → t3 ≡ before ++ flow_line port queue r
 unfolding flow_line
-line-written port queue r before t1 t2 t3 one two three = parts (place_words port queue) (counter_words (entries (counters_of r))) (ending_words r) one two three
+line-written port queue r before t1 t2 t3 one two three = parts (place_words port queue) (counter_texts false (entries (counters_of r))) (ending_words r) one two three
   where
     parts : (a b c : List ℕ) → t1 ≡ before ++ a → t2 ≡ t1 ++ b → t3 ≡ t2 ++ c → t3 ≡ before ++ (a ++ (b ++ c))
     parts a b c one two three =
@@ -31,33 +32,30 @@ line-written port queue r before t1 t2 t3 one two three = parts (place_words por
 
 -- the five parts of a flow's object
 pub object-written : (port queue : ℕ) (r : FlowReport) (before t1 t2 t3 t4 t5 : List ℕ) → t1 ≡ before ++ end_members (place port queue) (peer (place port queue))
-    → t2 ≡ t1 ++ counter_members (entries (counters_of r)) → t3 ≡ t2 ++ remaining_members r → t4 ≡ t3 ++ direction_members r → t5 ≡ t4 ++ ended_member r → t5 ≡ before ++ flow_object port queue r
+    → t2 ≡ t1 ++ counter_texts true (entries (counters_of r)) → t3 ≡ t2 ++ remaining_members r → t4 ≡ t3 ++ direction_members r → t5 ≡ t4 ++ ended_member r → t5 ≡ before ++ flow_object port queue r
 unfolding flow_object
 object-written port queue r before t1 t2 t3 t4 t5 one two three four five =
-    parts (end_members (place port queue) (peer (place port queue))) (counter_members (entries (counters_of r))) (remaining_members r) (direction_members r) (ended_member r) one two three four five
+    parts (end_members (place port queue) (peer (place port queue))) (counter_texts true (entries (counters_of r))) (remaining_members r) (direction_members r) (ended_member r) one two three four five
   where
     parts : (a b c d e : List ℕ) → t1 ≡ before ++ a → t2 ≡ t1 ++ b → t3 ≡ t2 ++ c → t4 ≡ t3 ++ d → t5 ≡ t4 ++ e → t5 ≡ before ++ (a ++ (b ++ (c ++ (d ++ e))))
     parts a b c d e one two three four five =
         five ∙ ap (λ (t : List ℕ). t ++ e) (four ∙ ap (λ (t : List ℕ). t ++ d) (three ∙ ap (λ (t : List ℕ). t ++ c) (two ∙ ap (λ (t : List ℕ). t ++ b) one)))
         ∙ append_assoc (((before ++ a) ++ b) ++ c) d e ∙ append_assoc ((before ++ a) ++ b) c (d ++ e) ∙ append_assoc (before ++ a) b (c ++ (d ++ e)) ∙ append_assoc before a (b ++ (c ++ (d ++ e)))
 
--- a list of counters, each written as `part` says
-module _ (part : Entry → List ℕ) (all : List Entry → List ℕ) (step : (e : Entry) (es : List Entry) → all (e ∷ es) ≡ part e ++ all es) (none : all [] ≡ []) where
-  -- a counter more
-  pub entries-more : (k : ℕ) (cs : List Counter) (d : Counter) (before after whole : List ℕ) → k < length cs
-      → before ++ all (map entry_of (drop k cs)) ≡ whole → after ≡ before ++ part (entry_of (get_or cs k d)) → after ++ all (map entry_of (drop (k + 1) cs)) ≡ whole
-  entries-more k cs d before after whole low is grown =
-      let f : List Counter → List ℕ = λ (l : List Counter). all (map entry_of l) in
-      let c : Counter = get_or cs k d in
-      let first : f (drop k cs) ≡ part (entry_of c) ++ f (drop (k + 1) cs) = at_drop_more f cs k d low ∙ step (entry_of c) (map entry_of (drop (k + 1) cs)) in
-      part-more (part (entry_of c)) (f (drop (k + 1) cs)) before after whole (ap (λ (t : List ℕ). before ++ t) (sym first) ∙ is) grown
+-- a counter more
+pub counters-more : (json : Bool) (k : ℕ) (cs : List Counter) (d : Counter) (before after whole : List ℕ) → k < length cs
+    → before ++ counter_texts json (map entry_of (drop k cs)) ≡ whole → after ≡ before ++ counter_text json (entry_of (get_or cs k d))
+    → after ++ counter_texts json (map entry_of (drop (k + 1) cs)) ≡ whole
+counters-more json k cs d before after whole low is grown =
+    let f : List Counter → List ℕ = λ (l : List Counter). counter_texts json (map entry_of l) in
+    let first : f (drop k cs) ≡ counter_text json (entry_of (get_or cs k d)) ++ f (drop (k + 1) cs) = at_drop_more f cs k d low in
+    part-more (counter_text json (entry_of (get_or cs k d))) (f (drop (k + 1) cs)) before after whole (ap (λ (t : List ℕ). before ++ t) (sym first) ∙ is) grown
 
-  -- and after the last of them
-  pub entries-all : (k : ℕ) (cs : List Counter) (before whole : List ℕ) → length cs ≤ k → before ++ all (map entry_of (drop k cs)) ≡ whole → before ≡ whole
-  entries-all k cs before whole over is =
-      let f : List Counter → List ℕ = λ (l : List Counter). all (map entry_of l) in
-      let rest : f (drop k cs) ≡ [] = at_drop_all f cs k over ∙ none in
-      sym (append-nil before) ∙ (ap (λ (t : List ℕ). before ++ t) (sym rest) ∙ is)
+-- and after the last of them
+pub counters-all : (json : Bool) (k : ℕ) (cs : List Counter) (before whole : List ℕ) → length cs ≤ k → before ++ counter_texts json (map entry_of (drop k cs)) ≡ whole → before ≡ whole
+counters-all json k cs before whole over is =
+    let rest : counter_texts json (map entry_of (drop k cs)) ≡ [] = at_drop_all (λ (l : List Counter). counter_texts json (map entry_of l)) cs k over in
+    sym (append-nil before) ∙ (ap (λ (t : List ℕ). before ++ t) (sym rest) ∙ is)
 
 -- a frame more of a wire
 pub frame-more : (port queue : ℕ) (bytes : List ℕ) (rest : List (List ℕ)) (before after whole : List ℕ)

@@ -1,4 +1,5 @@
 pub mod Leaving
+pub mod Counts
 pub mod Sums
 pub mod Objects
 pub mod Text

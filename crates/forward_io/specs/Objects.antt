@@ -1,12 +1,13 @@
 -- A flow's report as a JSON object on its own line.
 use Rattle.std.specs.Prelude.{ℕ, ◌-◌, ◌^◌, Bool, true, false, List, [], ◌∷◌, ◌++◌, codes, decimal, length, min, sum_by}
-use Rattle.counters.specs.FlowCounters.{Entry, entries}
+use Rattle.counters.specs.FlowCounters.{entries}
 use Rattle.forwarding.specs.declared.report.Ended.{Ended}
 use Rattle.forwarding.specs.declared.report.Ended.TheVariants.{Cut, Drained}
 use Rattle.forwarding.specs.declared.report.FlowReport.{FlowReport}
 use Rattle.forwarding.specs.declared.ports.PortQueue.{PortQueue}
 use Rattle.forwarding.specs.Peers.{peer, place}
 use Rattle.forwarding.specs.Reported.{counters_of}
+use Rattle.forward_io.specs.Counts.{counter_texts}
 use Rattle.forward_io.specs.Leaving.{leaving}
 use Rattle.forward_io.specs.declared.sums.PortSums.{PortSums}
 
@@ -20,14 +21,6 @@ end_members input output =
     codes "{\"port\":" ++ (decimal input.port ++ (codes ",\"queue\":" ++ (decimal input.queue
     ++ (codes ",\"rx_port\":" ++ (decimal input.port ++ (codes ",\"rx_queue\":" ++ (decimal input.queue
     ++ (codes ",\"tx_port\":" ++ (decimal output.port ++ (codes ",\"tx_queue\":" ++ decimal output.queue))))))))))
-
--- a counter after its key
-abbrev pub counter_member : Entry → List ℕ
-counter_member e = codes ",\"" ++ (e.key ++ (codes "\":" ++ decimal e.value))
-
-abbrev pub counter_members : List Entry → List ℕ
-counter_members [] = []
-counter_members (e ∷ es) = counter_member e ++ counter_members es
 
 -- the frames that went out, and what remained
 abbrev pub remaining_members : FlowReport → List ℕ
@@ -50,7 +43,7 @@ ended_member r = codes ",\"ended\":\"" ++ (ended_word r.ended ++ codes "\"}\n")
 -- the object of the flow that came in at this port and queue
 unfoldable pub flow_object : ℕ → ℕ → FlowReport → List ℕ
 flow_object port queue r =
-    end_members (place port queue) (peer (place port queue)) ++ (counter_members (entries (counters_of r)) ++ (remaining_members r ++ (direction_members r ++ ended_member r)))
+    end_members (place port queue) (peer (place port queue)) ++ (counter_texts true (entries (counters_of r)) ++ (remaining_members r ++ (direction_members r ++ ended_member r)))
 
 -- the sum of a count over flows, at most 2^64 - 1
 abbrev pub total : (FlowReport → ℕ) → List FlowReport → ℕ

@@ -1,11 +1,12 @@
 -- The text of a report: the frames of the wires as script lines, unless it is quiet, then a line or an object for each
 -- flow, and with objects also one for each port.
-use Rattle.std.specs.Prelude.{ℕ, ◌+◌, Bool, true, false, Option, Some, None, if◌then◌else◌, List, [], ◌∷◌, ◌++◌, codes, decimal, drop, length, map, take}
-use Rattle.counters.specs.FlowCounters.{Entry, entries}
+use Rattle.std.specs.Prelude.{ℕ, ◌+◌, Bool, true, false, if◌then◌else◌, List, [], ◌∷◌, ◌++◌, codes, decimal, drop, length, map, take}
+use Rattle.counters.specs.FlowCounters.{entries}
 use Rattle.forwarding.specs.declared.report.FlowReport.{FlowReport}
 use Rattle.forwarding.specs.Reported.{counters_of}
 use Rattle.wire_script.specs.Frame.{Frame, frame_of}
 use Rattle.wire_script.specs.Script.{text_for}
+use Rattle.forward_io.specs.Counts.{counter_texts}
 use Rattle.forward_io.specs.Leaving.{leaving}
 use Rattle.forward_io.specs.Objects.{ended_word, flow_object, port_objects}
 use Rattle.requests.specs.declared.printing.Printing.{Printing}
@@ -27,18 +28,6 @@ wires_text quiet front back = if quiet then [] else text_for (wires_of front bac
 abbrev pub place_words : ℕ → ℕ → List ℕ
 place_words port queue = codes "flow " ++ (decimal port ++ (codes " " ++ decimal queue))
 
--- a counter after its word, if it has one
-abbrev pub after_word : Option (List ℕ) → ℕ → List ℕ
-after_word None value = []
-after_word (Some word) value = codes " " ++ (word ++ (codes " " ++ decimal value))
-
-abbrev pub counter_word : Entry → List ℕ
-counter_word e = after_word e.word e.value
-
-abbrev pub counter_words : List Entry → List ℕ
-counter_words [] = []
-counter_words (e ∷ es) = counter_word e ++ counter_words es
-
 -- the frames that went out and remained, and how it ended
 abbrev pub ending_words : FlowReport → List ℕ
 ending_words r =
@@ -46,7 +35,7 @@ ending_words r =
 
 -- the line of a flow
 unfoldable pub flow_line : ℕ → ℕ → FlowReport → List ℕ
-flow_line port queue r = place_words port queue ++ (counter_words (entries (counters_of r)) ++ ending_words r)
+flow_line port queue r = place_words port queue ++ (counter_texts false (entries (counters_of r)) ++ ending_words r)
 
 -- the object or the line of a flow
 abbrev pub flow_text : Bool → ℕ → ℕ → FlowReport → List ℕ

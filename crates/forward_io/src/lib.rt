@@ -11,6 +11,7 @@
 #![tactic(auto)]
 
 pub mod captured;
+mod counts;
 mod explaining;
 mod objects;
 mod outputs;

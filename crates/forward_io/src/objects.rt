@@ -1,14 +1,13 @@
 //! The reports of flows, and the sums of ports, as JSON objects.
-ghost use Rattle.std.specs.Prelude.{◌≡◌, ◌<◌, ◌++◌, map, IfErr, OnOk};
+ghost use Rattle.std.specs.Prelude.{◌≡◌, ◌<◌, ◌++◌, IfErr, OnOk};
 ghost use Rattle.std.specs.String.{string_bytes};
-ghost use Rattle.counters.specs.FlowCounters.{entry_of};
 ghost use Rattle.requests.specs.declared.refusal.Refusal.TheVariants.{Memory};
 ghost use Rattle.limits.specs.declared.profile.TheConstants.{PORTS};
-ghost use Rattle.forward_io.specs.Objects.{counter_members, direction_members, end_members, ended_member, ended_word, flow_object, port_object, port_objects, received_members, remaining_members, sent_members};
+ghost use Rattle.forward_io.specs.Objects.{direction_members, end_members, ended_member, ended_word, flow_object, port_object, port_objects, received_members, remaining_members, sent_members};
 
+use crate::counts::write_counters;
 use crate::outputs::leaving;
 use crate::sums::{PortSums, bytes_of};
-use counters::Counter;
 use forwarding::{Ended, FlowReport, PortQueue, peer};
 use requests::Refusal;
 
@@ -35,7 +34,7 @@ pub(crate) fn write_object(
 {
     let input = PortQueue { port, queue };
     write_ends(text, input, peer(input))?;
-    write_counters(text, &flow.counters().entries())?;
+    write_counters(text, true, &flow.counters().entries())?;
     write_remaining(text, flow)?;
     write_directions(text, flow)?;
     write_ended(text, flow)
@@ -51,17 +50,6 @@ fn write_ends(text: &mut String, input: PortQueue, output: PortQueue) -> Result<
         "{{\"port\":{},\"queue\":{},\"rx_port\":{},\"rx_queue\":{},\"tx_port\":{},\"tx_queue\":{}",
         input.port, input.queue, input.port, input.queue, output.port, output.queue,
     )?;
-    Ok(())
-}
-
-/// Writes counters, each after its key.
-fn write_counters(text: &mut String, counters: &[Counter]) -> Result<(), Refusal>
-    ensures members { OnOk result (string_bytes text.new ≡ string_bytes text.old ++ counter_members (map entry_of counters.now)) }
-    ensures refused { IfErr result (λ e. e ≡ Memory) }
-{
-    for counter in counters {
-        write!(text, ",\"{}\":{}", counter.key, counter.value)?;
-    }
     Ok(())
 }
 
@@ -131,10 +119,10 @@ fn write_received(text: &mut String, port: u8, sums: PortSums) -> Result<(), Ref
     ensures members { OnOk result (string_bytes text.new ≡ string_bytes text.old ++ received_members port sums) }
     ensures refused { IfErr result (λ e. e ≡ Memory) }
 {
+    let (packets, bytes, dropped) = (sums.rx_packets, sums.rx_bytes, sums.rx_dropped);
     write!(
         text,
-        "{{\"port\":{port},\"rx_packets\":{},\"rx_bytes\":{},\"rx_dropped\":{}",
-        sums.rx_packets, sums.rx_bytes, sums.rx_dropped,
+        "{{\"port\":{port},\"rx_packets\":{packets},\"rx_bytes\":{bytes},\"rx_dropped\":{dropped}"
     )?;
     Ok(())
 }
@@ -144,10 +132,10 @@ fn write_sent(text: &mut String, sums: PortSums) -> Result<(), Refusal>
     ensures members { OnOk result (string_bytes text.new ≡ string_bytes text.old ++ sent_members sums) }
     ensures refused { IfErr result (λ e. e ≡ Memory) }
 {
+    let (packets, bytes, dropped) = (sums.tx_packets, sums.tx_bytes, sums.tx_dropped);
     writeln!(
         text,
-        ",\"tx_packets\":{},\"tx_bytes\":{},\"tx_dropped\":{}}}",
-        sums.tx_packets, sums.tx_bytes, sums.tx_dropped,
+        ",\"tx_packets\":{packets},\"tx_bytes\":{bytes},\"tx_dropped\":{dropped}}}"
     )?;
     Ok(())
 }

@@ -1,6 +1,6 @@
 //! The numbers that are shown of a run, and their text.
 ghost use Rattle.std.specs.Prelude.{Some};
-ghost use Rattle.forward_io.specs.ShownLines.{line_text, members_of, words_of};
+ghost use Rattle.forward_io.specs.ShownLines.{line_text, words_of};
 
 use requests::ProgressForm;
 use std::fmt;
@@ -37,7 +37,11 @@ impl fmt::Display for ProgressLine {
         match self.form {
             ProgressForm::Lines => write!(f, "{}", Words { shown }),
             ProgressForm::Rewritten => write!(f, "\r\u{1b}[K{}", Words { shown }),
-            ProgressForm::Objects => write!(f, "{{{}}}", Members { shown }),
+            ProgressForm::Objects => write!(
+                f,
+                "{{\"offered\":{},\"frames\":{},\"taken\":{},\"posted\":{},\"per_second\":{}}}",
+                shown.offered, shown.frames, shown.taken, shown.posted, shown.per_second,
+            ),
         }
     }
 }
@@ -62,30 +66,6 @@ impl fmt::Display for Words {
         write!(
             f,
             "offered {offered} of {frames} taken {taken} posted {posted} per-second {per_second}"
-        )
-    }
-}
-
-/// The numbers as members of a JSON object.
-#[derive(Clone, Copy)]
-struct Members {
-    shown: LiveTotals,
-}
-
-impl fmt::Display for Members {
-    ghost output = { λ m. Some (members_of m.shown) };
-
-    fn fmt<W: fmt::Write>(&self, f: &mut fmt::Formatter<W>) -> fmt::Result {
-        let LiveTotals {
-            offered,
-            frames,
-            taken,
-            posted,
-            per_second,
-        } = self.shown;
-        write!(
-            f,
-            "\"offered\":{offered},\"frames\":{frames},\"taken\":{taken},\"posted\":{posted},\"per_second\":{per_second}"
         )
     }
 }

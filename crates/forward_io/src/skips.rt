@@ -41,10 +41,15 @@ fn write_object(text: &mut String, number: usize, skipped: &Skipped) -> Result<(
     ensures object { OnOk result (string_bytes text.new ≡ string_bytes text.old ++ skipped_object number skipped.now) }
     ensures refused { IfErr result (λ e. e ≡ Memory) }
 {
+    let Skipped {
+        truncated,
+        snapped,
+        long,
+        short,
+    } = *skipped;
     writeln!(
         text,
-        "{{\"capture\":{number},\"truncated\":{},\"snapped\":{},\"long\":{},\"short\":{}}}",
-        skipped.truncated, skipped.snapped, skipped.long, skipped.short,
+        "{{\"capture\":{number},\"truncated\":{truncated},\"snapped\":{snapped},\"long\":{long},\"short\":{short}}}"
     )?;
     Ok(())
 }

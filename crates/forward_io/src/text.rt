@@ -1,18 +1,17 @@
 //! The text of a report.
 ghost use Rattle.std.specs.Prelude.{◌≡◌, ◌++◌, ◌*◌, ◌<◌, ◌≤◌, length, map, IfErr, IfOk, OnOk};
 ghost use Rattle.std.specs.String.{string_bytes};
-ghost use Rattle.counters.specs.FlowCounters.{entry_of};
 ghost use Rattle.limits.specs.declared.profile.TheConstants.{MOST_PAIRS, PORTS};
 ghost use Rattle.requests.specs.declared.refusal.Refusal.TheVariants.{Memory};
 ghost use Rattle.wire_script.specs.Frame.{frame_of};
 ghost use Rattle.wire_script.specs.Script.{text_for};
-ghost use Rattle.forward_io.specs.Text.{counter_word, counter_words, ending_words, flow_line, flow_text, flow_texts, report_text, wires_from, wires_text};
+ghost use Rattle.forward_io.specs.Text.{ending_words, flow_line, flow_text, flow_texts, report_text, wires_from, wires_text};
 
+use crate::counts::write_counters;
 use crate::objects::{word_of, write_object, write_ports};
 use crate::outputs::leaving;
 use crate::sums::bytes_of;
 use controller::Wire;
-use counters::Counter;
 use forwarding::FlowReport;
 use requests::{Printing, Refusal};
 use std::alloc::Global;
@@ -73,10 +72,8 @@ fn write_wires(
     ensures lines { OnOk result (string_bytes text.new ≡ string_bytes text.old ++ text_for (wires_from port 0 flows.now)) }
     ensures refused { IfErr result (λ e. e ≡ Memory) }
 {
-    let mut queue = 0u8;
-    for flow in flows {
-        write_wire(alloc, text, port, queue, &flow.wire)?;
-        queue += 1;
+    for (queue, flow) in flows.iter().enumerate() {
+        write_wire(alloc, text, port, queue as u8, &flow.wire)?;
     }
     Ok(())
 }
@@ -107,30 +104,8 @@ fn write_flow(text: &mut String, port: u8, queue: u8, flow: &FlowReport) -> Resu
     ensures refused { IfErr result (λ e. e ≡ Memory) }
 {
     write!(text, "flow {port} {queue}")?;
-    write_words(text, &flow.counters().entries())?;
+    write_counters(text, false, &flow.counters().entries())?;
     write_ending(text, flow)
-}
-
-/// Writes counters, each after its word.
-fn write_words(text: &mut String, counters: &[Counter]) -> Result<(), Refusal>
-    ensures words { OnOk result (string_bytes text.new ≡ string_bytes text.old ++ counter_words (map entry_of counters.now)) }
-    ensures refused { IfErr result (λ e. e ≡ Memory) }
-{
-    for counter in counters {
-        write_word(text, counter)?;
-    }
-    Ok(())
-}
-
-/// Writes a counter after its word, if it has one.
-fn write_word(text: &mut String, counter: &Counter) -> Result<(), Refusal>
-    ensures word { OnOk result (string_bytes text.new ≡ string_bytes text.old ++ counter_word (entry_of counter.now)) }
-    ensures refused { IfErr result (λ e. e ≡ Memory) }
-{
-    if let Some(word) = counter.word {
-        write!(text, " {word} {}", counter.value)?;
-    }
-    Ok(())
 }
 
 /// Writes how many frames left a flow, how many remained, and how it ended.
@@ -169,10 +144,8 @@ fn write_flows(text: &mut String, json: bool, port: u8, flows: &[FlowReport]) ->
     ensures lines { OnOk result (string_bytes text.new ≡ string_bytes text.old ++ flow_texts json port 0 flows.now) }
     ensures refused { IfErr result (λ e. e ≡ Memory) }
 {
-    let mut queue = 0u8;
-    for flow in flows {
-        write_counts(text, json, port, queue, flow)?;
-        queue += 1;
+    for (queue, flow) in flows.iter().enumerate() {
+        write_counts(text, json, port, queue as u8, flow)?;
     }
     Ok(())
 }

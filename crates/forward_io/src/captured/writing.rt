@@ -46,7 +46,7 @@ pub(crate) fn write_wires<R: Files>(
     put_all(rt, alloc, pairs, wires, targets, parts.as_slice(), flows)
 }
 
-/// Appends the part of a target.
+/// Writes the capture of a port beside its file, unless that is a stream or standard output. Appends the part's name.
 fn add_part<R: Files>(
     rt: &R,
     alloc: Global,
@@ -64,32 +64,15 @@ fn add_part<R: Files>(
 {
     let at = parts.len();
     parts.push(None).map_err(|_| Refusal::Memory)?;
-    parts[at] = part_of(rt, alloc, pairs, port, target, flows)?;
-    Ok(())
-}
-
-/// Writes the capture of a port beside its file, unless that is a stream or standard output. Returns the part's name.
-fn part_of<R: Files>(
-    rt: &R,
-    alloc: Global,
-    pairs: usize,
-    port: u8,
-    target: &Target,
-    flows: &[FlowReport],
-) -> Result<Option<String>, Refusal>
-    requires pairs { pairs ≤ MOST_PAIRS }
-    requires flows { length flows.now ≡ PORTS * pairs }
-    requires port { port < PORTS }
-    ensures { IfErr result IsLost }
-{
     let (path, old) = match target {
-        Target::Output | Target::Stream => return Ok(None),
+        Target::Output | Target::Stream => return Ok(()),
         Target::New { path } => (path.as_str(), None),
         Target::Regular { path, old } => (path.as_str(), Some(old)),
     };
     let bytes = wire_capture(alloc, flows, pairs, port)?;
     let part = write_part(rt, alloc, path, old, bytes.as_slice())?;
-    Ok(Some(part))
+    parts[at] = Some(part);
+    Ok(())
 }
 
 /// Moves each capture into place.

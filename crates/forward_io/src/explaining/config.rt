@@ -38,10 +38,9 @@ fn explain_buffers(
         ..
     } = *config;
     match fault {
-        ConfigFault::Buffers => write!(
-            why,
-            "--buffers is {buffers}, but must be {FEWEST_BUFFERS} to {MOST_BUFFERS}"
-        ),
+        ConfigFault::Buffers => {
+            explain_range(why, "--buffers", buffers, FEWEST_BUFFERS, MOST_BUFFERS)
+        }
         ConfigFault::Share => write!(
             why,
             "--buffers is {buffers}, but must be at least {} with --pairs {pairs}, {LEAST_SHARE} for each flow",
@@ -64,10 +63,13 @@ fn explain_work(why: &mut String, config: &Config, fault: ConfigFault) -> Result
         ..
     } = *config;
     match fault {
-        ConfigFault::Batch => write!(why, "--batch is {batch}, but must be 1 to {MOST_BATCH}"),
-        ConfigFault::RsEvery => write!(
+        ConfigFault::Batch => explain_range(why, "--batch", batch, 1, MOST_BATCH as u32),
+        ConfigFault::RsEvery => explain_range(
             why,
-            "--rs-every is {rs_every}, but must be 1 to {MOST_RS_EVERY}"
+            "--rs-every",
+            rs_every,
+            1,
+            u32::from(MOST_RS_EVERY),
         ),
         _ => write!(
             why,
@@ -75,6 +77,17 @@ fn explain_work(why: &mut String, config: &Config, fault: ConfigFault) -> Result
             pairs.saturating_mul(2)
         ),
     }
+}
+
+/// Explains an option whose value is outside its range.
+fn explain_range(
+    why: &mut String,
+    option: &str,
+    value: u32,
+    least: u32,
+    most: u32,
+) -> Result<(), AllocError> {
+    write!(why, "{option} is {value}, but must be {least} to {most}")
 }
 
 /// Explains the first source whose queue does not exist.

@@ -1,9 +1,0 @@
-use Rattle.std.proofs.Common.{◌≡◌, ◌++◌, drop, map}
-use Rattle.std.specs.String.{string_bytes}
-use Rattle.counters.specs.FlowCounters.{entry_of}
-use Rattle.forward_io.specs.Text.{counter_words}
-use Rattle.forward_io.proofs.text.write_words.Given as goal
-
-abbrev pub invariant-loop-counter : goal.invariant-loop-counter
-invariant-loop-counter l =
-    string_bytes l.text ++ counter_words (map entry_of (drop l.counter-index l.counters)) ≡ string_bytes l.initial.text ++ counter_words (map entry_of l.counters)
