@@ -10,10 +10,11 @@ ghost use Rattle.tx_ring.specs.Ends.{is_owed, known_ready};
 ghost use Rattle.poll82599_c.specs.rings.Following.{CanFollow, IsBegun};
 ghost use Rattle.poll82599_c.specs.rings.RxEnds.{FoundNoneFree, SaidNoMore, StoredOne, WroteOne};
 ghost use Rattle.poll82599_c.specs.rings.TxEnds.{SentNone, SentOne};
-ghost use Rattle.poll82599_c.specs.rings.Steps.{AnsweredAsked, LookedAsked};
+ghost use Rattle.poll82599_c.specs.rings.Steps.{TriedAnswer};
 
 use crate::half::Half;
 use crate::rings::handed::Handed;
+use crate::rings::handshake::answer_asked;
 use crate::rings::partial_frame::PartialFrame;
 use limits::BUFFER_BYTES;
 use rx_ring::{RxControllerEnd, RxRing};
@@ -55,18 +56,12 @@ impl RxServing {
         self.begun
     }
 
-    /// Loads the control word, and answers a request if it can. Returns 1 if it answered, otherwise 0.
+    /// Loads the control word, and returns the result of `handshake::answer_asked`.
     pub(crate) fn answer(&mut self) -> u32
         ensures own { self.new.table ≡ self.old.table }
-        ensures step { (result ≡ 1) → AnsweredAsked self.old self.new }
-        ensures looked { (result ≢ 1) → LookedAsked self.old self.new }
+        ensures step { TriedAnswer result self.old self.new }
     {
-        self.end.asked(&self.ring);
-        if !self.end.can_answer() {
-            return 0;
-        }
-        self.end.answer(&self.ring);
-        1
+        answer_asked(&mut self.end, &self.ring)
     }
 
     /// Stores a segment, and the head if it ends its frame. Returns 1: done; 0: no descriptor is free; 2: the segment
@@ -129,18 +124,12 @@ impl RxServing {
 pub(crate) type TxServing = Half<TxRing, TxControllerEnd>;
 
 impl Half<TxRing, TxControllerEnd> {
-    /// Loads the control word, and answers a request if it can. Returns 1 if it answered, otherwise 0.
+    /// Loads the control word, and returns the result of `handshake::answer_asked`.
     pub(crate) fn answer(&mut self) -> u32
         ensures own { self.new.table ≡ self.old.table }
-        ensures step { (result ≡ 1) → AnsweredAsked self.old self.new }
-        ensures looked { (result ≢ 1) → LookedAsked self.old self.new }
+        ensures step { TriedAnswer result self.old self.new }
     {
-        self.end.asked(&self.ring);
-        if !self.end.can_answer() {
-            return 0;
-        }
-        self.end.answer(&self.ring);
-        1
+        answer_asked(&mut self.end, &self.ring)
     }
 
     /// Sends the next segment into `bytes`, at least 2,048, and reports it if it asks for a report. Returns 1: done; 0:
