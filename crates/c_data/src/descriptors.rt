@@ -3,7 +3,7 @@ ghost use Rattle.std.specs.Prelude.{◌≡◌, ◌≢◌, ◌<◌, IfErr, IfNone
 ghost use Rattle.descriptor.specs.Layout.{AreBytes};
 ghost use Rattle.descriptor.specs.Receive.{rx_back_form, rx_back_numbers, rx_read_form, rx_read_numbers};
 ghost use Rattle.descriptor.specs.Transmit.{no_numbers, tx_back_form, tx_read_form, tx_read_numbers};
-ghost use Rattle.c_data.specs.Descriptors.{IsRefusal, IsRxBack, IsRxRead, IsTxRead};
+ghost use Rattle.c_data.specs.Descriptors.{AreRxBack, AreRxRead, AreTxRead, IsRefusal, IsRxBack, IsRxRead, IsTxRead};
 ghost use Rattle.ffi_handle.specs.Words.{is_set};
 
 use descriptor::{Descriptor, RxBack, RxRead, TxBack, TxRead};
@@ -39,10 +39,9 @@ const UNSAID: u32 = 2;
 #[unsafe(no_mangle)]
 pub extern "C" fn poll82599_decode(form: u32, bytes: &[u8], said: &mut Poll82599Descriptor) -> u32
     ensures kept { (result ≢ 0) → said.new ≡ said.old }
-    ensures rx_read { (form ≡ 0) → (result ≡ 0) → AreBytes rx_read_form (rx_read_numbers said.new.number) bytes.now }
-    ensures rx_back { (form ≡ 1) → (result ≡ 0) → AreBytes rx_back_form (rx_back_numbers said.new.len (is_set said.new.eop)) bytes.now }
-    ensures tx_read { (form ≡ 2) → (result ≡ 0)
-        → AreBytes tx_read_form (tx_read_numbers said.new.number said.new.len (is_set said.new.eop) (is_set said.new.rs) said.new.paylen) bytes.now }
+    ensures rx_read { (form ≡ 0) → (result ≡ 0) → AreRxRead said.new bytes.now }
+    ensures rx_back { (form ≡ 1) → (result ≡ 0) → AreRxBack said.new bytes.now }
+    ensures tx_read { (form ≡ 2) → (result ≡ 0) → AreTxRead said.new bytes.now }
     ensures tx_back { (form ≡ 3) → (result ≡ 0) → AreBytes tx_back_form no_numbers bytes.now }
     ensures no_rx_read { (form ≡ 0) → (result ≢ 0) → IsRefusal rx_read_form bytes.now result }
     ensures no_rx_back { (form ≡ 1) → (result ≢ 0) → IsRefusal rx_back_form bytes.now result }
@@ -72,10 +71,9 @@ pub extern "C" fn poll82599_decode(form: u32, bytes: &[u8], said: &mut Poll82599
 #[unsafe(no_mangle)]
 pub extern "C" fn poll82599_encode(form: u32, said: &Poll82599Descriptor, bytes: &mut [u8]) -> u32
     ensures kept { (result ≢ 0) → bytes.new ≡ bytes.old }
-    ensures rx_read { (form ≡ 0) → (result ≡ 0) → AreBytes rx_read_form (rx_read_numbers said.now.number) bytes.new }
-    ensures rx_back { (form ≡ 1) → (result ≡ 0) → AreBytes rx_back_form (rx_back_numbers said.now.len (is_set said.now.eop)) bytes.new }
-    ensures tx_read { (form ≡ 2) → (result ≡ 0)
-        → AreBytes tx_read_form (tx_read_numbers said.now.number said.now.len (is_set said.now.eop) (is_set said.now.rs) said.now.paylen) bytes.new }
+    ensures rx_read { (form ≡ 0) → (result ≡ 0) → AreRxRead said.now bytes.new }
+    ensures rx_back { (form ≡ 1) → (result ≡ 0) → AreRxBack said.now bytes.new }
+    ensures tx_read { (form ≡ 2) → (result ≡ 0) → AreTxRead said.now bytes.new }
     ensures tx_back { (form ≡ 3) → (result ≡ 0) → AreBytes tx_back_form no_numbers bytes.new }
     ensures sixteen { (result ≡ 1) → length bytes.old ≢ 16 }
     ensures no_rx_read { (form ≡ 0) → (result ≡ 2) → ¬ IsRxRead said.now }
@@ -168,7 +166,7 @@ fn tx_back_in(bytes: &[u8]) -> Result<Poll82599Descriptor, u32>
 }
 
 fn rx_read_bytes(said: &Poll82599Descriptor) -> Option<[u8; 16]>
-    ensures some { IfSome result (λ bytes. AreBytes rx_read_form (rx_read_numbers said.now.number) bytes) }
+    ensures some { IfSome result (λ bytes. AreRxRead said.now bytes) }
     ensures none { IfNone result (¬ IsRxRead said.now) }
 {
     if said.number > 0xFFFF {
@@ -181,7 +179,7 @@ fn rx_read_bytes(said: &Poll82599Descriptor) -> Option<[u8; 16]>
 }
 
 fn rx_back_bytes(said: &Poll82599Descriptor) -> Option<[u8; 16]>
-    ensures some { IfSome result (λ bytes. AreBytes rx_back_form (rx_back_numbers said.now.len (is_set said.now.eop)) bytes) }
+    ensures some { IfSome result (λ bytes. AreRxBack said.now bytes) }
     ensures none { IfNone result (¬ IsRxBack said.now) }
 {
     if said.len == 0 || BUFFER_BYTES < said.len as usize {
@@ -191,8 +189,7 @@ fn rx_back_bytes(said: &Poll82599Descriptor) -> Option<[u8; 16]>
 }
 
 fn tx_read_bytes(said: &Poll82599Descriptor) -> Option<[u8; 16]>
-    ensures some { IfSome result (λ bytes. AreBytes tx_read_form
-        (tx_read_numbers said.now.number said.now.len (is_set said.now.eop) (is_set said.now.rs) said.now.paylen) bytes) }
+    ensures some { IfSome result (λ bytes. AreTxRead said.now bytes) }
     ensures none { IfNone result (¬ IsTxRead said.now) }
 {
     let (eop, rs) = (is_set(said.eop), is_set(said.rs));

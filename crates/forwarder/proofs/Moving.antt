@@ -60,20 +60,13 @@ pub marks-by : {A N P C : Type 0} (part : P → N) (mark : N → C) (pen : A →
     → map part pens ≡ map pen back → map (λ w. mark (pen w)) back ≡ cs → map (λ p. mark (part p)) pens ≡ cs
 marks-by part mark pen pens back cs same of = sym (map-map mark part pens) ∙ (ap (map mark) same ∙ (map-map mark pen back ∙ of))
 
--- the keys' last parts, which no turn changes
-pub cells-of : {A F K C T : Type 0} (key : F → K) (flow : A → F) (cell : A → C) (base : A → T) (back given : List A) (cs : List C)
-    → map {B = K × (C × T)} (λ w. (key (flow w), (cell w, base w))) back ≡ map {B = K × (C × T)} (λ w. (key (flow w), (cell w, base w))) given → map cell given ≡ cs → map cell back ≡ cs
-cells-of {K = K} {C = C} {T = T} key flow cell base back given cs same of =
+-- a part of the keys, which no turn changes
+pub part-of : {A F K C T P : Type 0} (key : F → K) (flow : A → F) (cell : A → C) (base : A → T) (part : K × (C × T) → P) (back given : List A) (ps : List P)
+    → map {B = K × (C × T)} (λ w. (key (flow w), (cell w, base w))) back ≡ map {B = K × (C × T)} (λ w. (key (flow w), (cell w, base w))) given
+    → map (λ w. part (key (flow w), (cell w, base w))) given ≡ ps → map (λ w. part (key (flow w), (cell w, base w))) back ≡ ps
+part-of {K = K} {C = C} {T = T} key flow cell base part back given ps same of =
     let all : _ → K × (C × T) = λ w. (key (flow w), (cell w, base w)) in
-    let mark : K × (C × T) → C = λ p. p.1.0 in
-    sym (map-map mark all back) ∙ (ap (map mark) same ∙ (map-map mark all given ∙ of))
-
-pub bases-of : {A F K C T : Type 0} (key : F → K) (flow : A → F) (cell : A → C) (base : A → T) (back given : List A) (bs : List T)
-    → map {B = K × (C × T)} (λ w. (key (flow w), (cell w, base w))) back ≡ map {B = K × (C × T)} (λ w. (key (flow w), (cell w, base w))) given → map base given ≡ bs → map base back ≡ bs
-bases-of {K = K} {C = C} {T = T} key flow cell base back given bs same of =
-    let all : _ → K × (C × T) = λ w. (key (flow w), (cell w, base w)) in
-    let last : K × (C × T) → T = λ p. p.1.1 in
-    sym (map-map last all back) ∙ (ap (map last) same ∙ (map-map last all given ∙ of))
+    sym (map-map part all back) ∙ (ap (map part) same ∙ (map-map part all given ∙ of))
 
 -- what holds of each item holds of the lists of its parts, place by place
 pub by-parts : {A T : Type 0} (R : T → T → T → Type 0) (base count shown : A → T) (ws : List A) (bases counts shows : List T) → All (λ w. R (base w) (count w) (shown w)) ws

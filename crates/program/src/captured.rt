@@ -8,18 +8,29 @@ ghost use Rattle.forward_io.specs.Intakes.{reads_script};
 ghost use Rattle.forward_io.specs.Streams.{outlet};
 ghost use Rattle.requests.specs.Files.{streamed_port};
 
+use crate::bounds::{Host, Screen};
 use crate::cuts::{Due, explain_cuts};
 use crate::page::forwarded;
 use forward_io::captured::{FileRefusal, Intake, page_for, script_for, targets_of, tell};
 use forwarder::Config;
 use requests::{EXIT_SUCCESS, Printing, WireFile, put};
 use std::alloc::Global;
-use std::io::{IsTerminal, Read, Write};
-use std::marker::Send;
-use std::rt::Files;
-use std::sync::Wait;
-use std::thread::Threads;
-use std::time::Clock;
+use std::io::{Read, Write};
+
+/// What `forward` is asked for with captures.
+#[derive(Drop)]
+pub struct Forwarding<'c, 's, 'w> {
+    /// The configuration of the forwarder.
+    pub config: &'c Config,
+    /// The form of the output.
+    pub printing: Printing,
+    /// The frames that come in.
+    pub intake: Intake<'s, 'w>,
+    /// The wire files, which get the frames that leave.
+    pub wires: &'s [WireFile<'w>],
+    /// Whether a refusal and the flows that are cut are explained.
+    pub explain: bool,
+}
 
 /// Forwards the frames of an intake: those of its captures, and then those of the script of `input` if that is read
 /// ([`Intake::reads_script`]). Returns an exit status.
@@ -33,46 +44,42 @@ use std::time::Clock;
 ///
 /// The first of these refusals applies: a wire file that cannot be written, or that is the same file as another or as a
 /// capture, before anything else is done; a capture, in order; the refusals of `forward` for a script; a lack of memory for the output; a wire file; and the output, which is printed last.
-pub fn answer<
-    R: Threads + Wait + Clock + Sync + Files,
-    I: Read,
-    W: Write,
-    E: Write,
-    M: Write + IsTerminal + Send,
->(
+pub fn answer<R: Host, I: Read, W: Write, E: Write, M: Screen>(
     rt: &R,
     alloc: Global,
-    config: &Config,
-    printing: Printing,
-    intake: &Intake<'_, '_>,
-    wires: &[WireFile<'_>],
+    asked: &Forwarding<'_, '_, '_>,
     input: &mut I,
     output: &mut W,
     faults: &mut E,
     screen: &mut M,
-    explain: bool,
 ) -> u8
     ensures status { (result ≡ EXIT_SUCCESS) ⊎ (result ≡ EXIT_REFUSED) }
     ensures done { result ≡ EXIT_SUCCESS → Keeps (E.contents faults.old) (E.contents faults.new) }
-    ensures forward { intake.now.sources ≡ [] → streamed_port wires.now ≡ None → (text : List ℕ) → I.remaining input.old ≡ Some text
-        → EndsForward config.now printing text result (W.contents output.old) (W.contents output.new) }
+    ensures forward { asked.now.intake.sources ≡ [] → streamed_port asked.now.wires.now ≡ None → (text : List ℕ) → I.remaining input.old ≡ Some text
+        → EndsForward asked.now.config.now asked.now.printing text result (W.contents output.old) (W.contents output.new) }
     ensures captured { result ≡ EXIT_SUCCESS
-        → PrintsPage config.now (outlet printing wires.now) intake.now (I.remaining input.old) (W.contents output.old) (W.contents output.new) }
+        → PrintsPage asked.now.config.now (outlet asked.now.printing asked.now.wires.now) asked.now.intake (I.remaining input.old) (W.contents output.old) (W.contents output.new) }
     ensures refused { result ≡ EXIT_REFUSED
-        → EndsRefused config.now (outlet printing wires.now) intake.now (I.remaining input.old) (W.contents output.old) (W.contents output.new) }
-    ensures unread { reads_script intake.now ≡ false → input.new ≡ input.old }
-    ensures screen { printing.progress ≡ false → streamed_port wires.now ≡ None → intake.now.reading.skip ≡ false → config.now.turns ≡ 0 → screen.new ≡ screen.old }
+        → EndsRefused asked.now.config.now (outlet asked.now.printing asked.now.wires.now) asked.now.intake (I.remaining input.old) (W.contents output.old) (W.contents output.new) }
+    ensures unread { reads_script asked.now.intake ≡ false → input.new ≡ input.old }
+    ensures screen { asked.now.printing.progress ≡ false → streamed_port asked.now.wires.now ≡ None → asked.now.intake.reading.skip ≡ false → asked.now.config.now.turns ≡ 0 → screen.new ≡ screen.old }
 {
     let mut why = String::new(alloc);
-    match perform(
-        rt, alloc, config, printing, intake, wires, input, output, screen, &mut why,
-    ) {
+    match perform(rt, alloc, asked, input, output, screen, &mut why) {
         Ok(()) => {
-            note_cuts(screen, config.turns, explain, why.as_str());
+            note_cuts(screen, asked.config.turns, asked.explain, why.as_str());
             drop(why);
             EXIT_SUCCESS
         }
-        Err(refused) => tell(faults, config, intake.sources, wires, refused, why, explain),
+        Err(refused) => tell(
+            faults,
+            asked.config,
+            asked.intake.sources,
+            asked.wires,
+            refused,
+            why,
+            asked.explain,
+        ),
     }
 }
 
@@ -91,32 +98,22 @@ fn note_cuts<M: Write>(screen: &mut M, turns: u32, explain: bool, why: &str)
 /// Forwards with captures, writes the wire files and prints the output. A refusal before the printing leaves `output`
 /// unchanged. A failing `screen` changes nothing. Appends to `why` what the input shows of a refusal, or the flows that
 /// were cut before all their frames were offered.
-pub fn perform<
-    R: Threads + Wait + Clock + Sync + Files,
-    I: Read,
-    W: Write,
-    M: Write + IsTerminal + Send,
->(
+pub fn perform<R: Host, I: Read, W: Write, M: Screen>(
     rt: &R,
     alloc: Global,
-    config: &Config,
-    printing: Printing,
-    intake: &Intake<'_, '_>,
-    wires: &[WireFile<'_>],
+    asked: &Forwarding<'_, '_, '_>,
     input: &mut I,
     output: &mut W,
     screen: &mut M,
     why: &mut String,
 ) -> Result<(), FileRefusal>
-    ensures done { OnOk result (PrintsPage config.now (outlet printing wires.now) intake.now (I.remaining input.old) (W.contents output.old) (W.contents output.new)) }
+    ensures done { OnOk result (PrintsPage asked.now.config.now (outlet asked.now.printing asked.now.wires.now) asked.now.intake (I.remaining input.old) (W.contents output.old) (W.contents output.new)) }
     ensures refused { IfErr result (λ e.
-        WithholdsPage config.now (outlet printing wires.now) intake.now wires.now (I.remaining input.old) e (W.contents output.old) (W.contents output.new)) }
-    ensures unread { reads_script intake.now ≡ false → input.new ≡ input.old }
-    ensures screen { printing.progress ≡ false → streamed_port wires.now ≡ None → intake.now.reading.skip ≡ false → screen.new ≡ screen.old }
+        WithholdsPage asked.now.config.now (outlet asked.now.printing asked.now.wires.now) asked.now.intake asked.now.wires.now (I.remaining input.old) e (W.contents output.old) (W.contents output.new)) }
+    ensures unread { reads_script asked.now.intake ≡ false → input.new ≡ input.old }
+    ensures screen { asked.now.printing.progress ≡ false → streamed_port asked.now.wires.now ≡ None → asked.now.intake.reading.skip ≡ false → screen.new ≡ screen.old }
 {
-    let (bytes, text) = page_of(
-        rt, alloc, config, printing, intake, wires, input, screen, why,
-    )?;
+    let (bytes, text) = page_of(rt, alloc, asked, input, screen, why)?;
     put(bytes.as_slice(), output)?;
     if let Some(text) = text {
         let _ = screen.write_all(text.as_bytes());
@@ -127,23 +124,22 @@ pub fn perform<
 
 /// Writes the wire files. Returns the bytes for standard output, and the text for standard error: the records that were
 /// left out, and the counts if a capture replaces them on standard output.
-fn page_of<R: Threads + Wait + Clock + Sync + Files, I: Read, M: Write + IsTerminal + Send>(
+fn page_of<R: Host, I: Read, M: Screen>(
     rt: &R,
     alloc: Global,
-    config: &Config,
-    printing: Printing,
-    intake: &Intake<'_, '_>,
-    wires: &[WireFile<'_>],
+    asked: &Forwarding<'_, '_, '_>,
     input: &mut I,
     screen: &mut M,
     why: &mut String,
 ) -> Result<(Vec<u8>, Option<String>), FileRefusal>
-    ensures page { IfOk result (λ p. IsPage config.now (outlet printing wires.now) intake.now (I.remaining input.old) p.0.items) }
-    ensures beside { IfOk result (λ p. streamed_port wires.now ≡ None → intake.now.reading.skip ≡ false → p.1 ≡ None) }
-    ensures refused { IfErr result (λ e. HasNoPage config.now intake.now wires.now (I.remaining input.old) e) }
-    ensures unread { reads_script intake.now ≡ false → input.new ≡ input.old }
-    ensures screen { printing.progress ≡ false → screen.new ≡ screen.old }
+    ensures page { IfOk result (λ p. IsPage asked.now.config.now (outlet asked.now.printing asked.now.wires.now) asked.now.intake (I.remaining input.old) p.0.items) }
+    ensures beside { IfOk result (λ p. streamed_port asked.now.wires.now ≡ None → asked.now.intake.reading.skip ≡ false → p.1 ≡ None) }
+    ensures refused { IfErr result (λ e. HasNoPage asked.now.config.now asked.now.intake asked.now.wires.now (I.remaining input.old) e) }
+    ensures unread { reads_script asked.now.intake ≡ false → input.new ≡ input.old }
+    ensures screen { asked.now.printing.progress ≡ false → screen.new ≡ screen.old }
 {
+    let (config, printing) = (asked.config, asked.printing);
+    let (intake, wires) = (&asked.intake, asked.wires);
     let targets = targets_of(rt, alloc, intake.sources, wires)?;
     let (script, skipped) = script_for(rt, alloc, config.pairs, intake, input, why)?;
     let due = Due::of(&script);

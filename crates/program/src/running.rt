@@ -14,7 +14,8 @@ ghost use Rattle.requests.specs.Files.{streamed_port};
 ghost use Rattle.settings.specs.declared.config.Config.{Config};
 ghost use Rattle.command_line.specs.ParsedCommands.{IsUnshown, Says, ParsedCommand};
 
-use crate::captured;
+use crate::bounds::{Host, Screen};
+use crate::captured::{self, Forwarding};
 use clap::error::ErrorKind;
 use command_line::{Asked, asked_of, files_of};
 use commands::answer;
@@ -22,12 +23,7 @@ use forward_io::captured::Intake;
 use forwarder::Config as ForwardConfig;
 use requests::{EXIT_REFUSED, EXIT_SUCCESS, Printing as Printed, Refusal, refuse};
 use std::alloc::Global;
-use std::io::{IsTerminal, Read, Write};
-use std::marker::Send;
-use std::rt::Files;
-use std::sync::Wait;
-use std::thread::Threads;
-use std::time::Clock;
+use std::io::{Read, Write};
 
 /// The exit status of a command line that is not valid.
 pub const EXIT_USAGE: u8 = 2;
@@ -49,13 +45,7 @@ const EXPLAIN: &str = "--explain";
 ///
 /// With the word `--explain`, or if `screen` is a terminal, a second line on `faults` explains a refusal, and
 /// `forward --turns` names on `screen` the flows that were cut before all their frames were offered.
-pub fn run<
-    R: Threads + Wait + Clock + Sync + Files,
-    I: Read,
-    W: Write,
-    E: Write,
-    M: Write + IsTerminal + Send,
->(
+pub fn run<R: Host, I: Read, W: Write, E: Write, M: Screen>(
     rt: &R,
     alloc: Global,
     words: &[String],
@@ -111,13 +101,7 @@ fn says_explain(words: &[String]) -> bool {
 }
 
 /// Forwards under this configuration, with the files in the words, and returns the status.
-fn forward<
-    R: Threads + Wait + Clock + Sync + Files,
-    I: Read,
-    W: Write,
-    E: Write,
-    M: Write + IsTerminal + Send,
->(
+fn forward<R: Host, I: Read, W: Write, E: Write, M: Screen>(
     rt: &R,
     alloc: Global,
     words: &[String],
@@ -141,23 +125,20 @@ fn forward<
         → reads_script (intake_of files is_terminal) ≡ false → input.new ≡ input.old }
 {
     match files_of(alloc, words) {
-        Ok(files) => captured::answer(
-            rt,
-            alloc,
-            config,
-            printing,
-            &Intake {
-                sources: files.sources.as_slice(),
-                reading: files.reading,
-                is_terminal,
-            },
-            files.wires.as_slice(),
-            input,
-            output,
-            faults,
-            screen,
-            explain,
-        ),
+        Ok(files) => {
+            let asked = Forwarding {
+                config,
+                printing,
+                intake: Intake {
+                    sources: files.sources.as_slice(),
+                    reading: files.reading,
+                    is_terminal,
+                },
+                wires: files.wires.as_slice(),
+                explain,
+            };
+            captured::answer(rt, alloc, &asked, input, output, faults, screen)
+        }
         Err(error) => tell(&error, output, faults),
     }
 }

@@ -9,7 +9,7 @@ use Rattle.flows.proofs.Sent.{controller_flow, driver_flow}
 use Rattle.flows.specs.Driven.{is_over}
 use Rattle.forwarder.specs.LiveStatistics.{DrivenGoesOn, TallyGoesOn}
 use Rattle.forwarder.proofs.Continuing.{continue-all, pens-count, still}
-use Rattle.forwarder.proofs.Moving.{all-map, as-many, bases-of, by-parts, cells-of, keys-of, marks-by}
+use Rattle.forwarder.proofs.Moving.{all-map, as-many, by-parts, keys-of, marks-by, part-of}
 use Rattle.forwarder.proofs.serving.serve_watched.Goals as goal
 use Rattle.forwarder.proofs.serving.serve_watched.Goals.{After-serve_flows-served}
 
@@ -70,16 +70,16 @@ returns-clause-over g c = λ none.
 
 -- the cells of the flows that came back, and the numbers that these cells showed before
 drive-cells : (g : _) (c : After-serve_flows-served g) → map (λ w. w.pen.cell) c.serve_flows-served.result.drivers.items ≡ map (λ x. x.drive) c.args.cells.now
-drive-cells g c = cells-of (λ f. f.key) (λ w. w.flow) (λ w. w.pen.cell) (λ w. w.base) c.serve_flows-served.result.drivers.items c.wrap_all-flows.result.drivers.items _ c.serve_flows-served.ensures.drivers c.wrap_all-flows.ensures.drive
+drive-cells g c = part-of (λ f. f.key) (λ w. w.flow) (λ w. w.pen.cell) (λ w. w.base) (λ p. p.1.0) c.serve_flows-served.result.drivers.items c.wrap_all-flows.result.drivers.items _ c.serve_flows-served.ensures.drivers c.wrap_all-flows.ensures.drive
 
 stat-cells : (g : _) (c : After-serve_flows-served g) → map (λ w. w.pen.cell) c.serve_flows-served.result.controllers.items ≡ map (λ x. x.stat) c.args.cells.now
-stat-cells g c = cells-of (λ f. f.key) (λ w. w.flow) (λ w. w.pen.cell) (λ w. w.base) c.serve_flows-served.result.controllers.items c.wrap_all-flows.result.controllers.items _ c.serve_flows-served.ensures.controllers c.wrap_all-flows.ensures.stat
+stat-cells g c = part-of (λ f. f.key) (λ w. w.flow) (λ w. w.pen.cell) (λ w. w.base) (λ p. p.1.0) c.serve_flows-served.result.controllers.items c.wrap_all-flows.result.controllers.items _ c.serve_flows-served.ensures.controllers c.wrap_all-flows.ensures.stat
 
 drive-bases : (g : _) (c : After-serve_flows-served g) → map (λ w. w.base) c.serve_flows-served.result.drivers.items ≡ map (λ p. p.drive.last) c.args.pens.items
-drive-bases g c = bases-of (λ f. f.key) (λ w. w.flow) (λ w. w.pen.cell) (λ w. w.base) c.serve_flows-served.result.drivers.items c.wrap_all-flows.result.drivers.items _ c.serve_flows-served.ensures.drivers c.wrap_all-flows.ensures.drive_base
+drive-bases g c = part-of (λ f. f.key) (λ w. w.flow) (λ w. w.pen.cell) (λ w. w.base) (λ p. p.1.1) c.serve_flows-served.result.drivers.items c.wrap_all-flows.result.drivers.items _ c.serve_flows-served.ensures.drivers c.wrap_all-flows.ensures.drive_base
 
 stat-bases : (g : _) (c : After-serve_flows-served g) → map (λ w. w.base) c.serve_flows-served.result.controllers.items ≡ map (λ p. p.stat.last) c.args.pens.items
-stat-bases g c = bases-of (λ f. f.key) (λ w. w.flow) (λ w. w.pen.cell) (λ w. w.base) c.serve_flows-served.result.controllers.items c.wrap_all-flows.result.controllers.items _ c.serve_flows-served.ensures.controllers c.wrap_all-flows.ensures.stat_base
+stat-bases g c = part-of (λ f. f.key) (λ w. w.flow) (λ w. w.pen.cell) (λ w. w.base) (λ p. p.1.1) c.serve_flows-served.result.controllers.items c.wrap_all-flows.result.controllers.items _ c.serve_flows-served.ensures.controllers c.wrap_all-flows.ensures.stat_base
 
 pub returns-clause-pens : goal.returns-clause-pens
 returns-clause-pens g c =

@@ -12,16 +12,16 @@ use Rattle.program.proofs.captured.page_of.Goals as goal
 pub returns-clause-page : goal.returns-clause-page
 returns-clause-page g c =
     let flows = c.in_ok-report.report.flows.items in
-    let to = outlet c.args.printing c.args.wires.now in
-    IfOk-weaker c.page_for-page.result _ (λ p. IsPage c.args.config.now to c.args.intake.now (g.I.Read.remaining c.args.input.now) p.0.items)
-    (λ p is. page-of c.args.config.now to c.args.intake.now (g.I.Read.remaining c.args.input.now) c.in_ok-script.script c.in_ok-script.skipped.items flows
+    let to = outlet c.args.asked.now.printing c.args.asked.now.wires.now in
+    IfOk-weaker c.page_for-page.result _ (λ p. IsPage c.args.asked.now.config.now to c.args.asked.now.intake (g.I.Read.remaining c.args.input.now) p.0.items)
+    (λ p is. page-of c.args.asked.now.config.now to c.args.asked.now.intake (g.I.Read.remaining c.args.input.now) c.in_ok-script.script c.in_ok-script.skipped.items flows
     p.0.items c.in_ok-script.ensures.script c.in_ok-report.ensures.report
     (is ∙ ap₂ (λ (flows : List FlowReport) (skipped : List Skipped).
-    output_bytes c.args.printing (streamed_port c.args.wires.now) c.args.config.now.pairs flows (skipped_text c.args.printing.json c.args.intake.now.reading.skip skipped))
+    output_bytes c.args.asked.now.printing (streamed_port c.args.asked.now.wires.now) c.args.asked.now.config.now.pairs flows (skipped_text c.args.asked.now.printing.json c.args.asked.now.intake.reading.skip skipped))
     c.as_slice-flows.ensures.value c.as_slice.ensures.value)) c.page_for-page.ensures.page
 
 pub returns-clause-refused : goal.returns-clause-refused
 returns-clause-refused g c =
-    IfErr-weaker c.page_for-page.result _ (λ e. HasNoPage c.args.config.now c.args.intake.now c.args.wires.now (g.I.Read.remaining c.args.input.now) e)
-    (λ e why. unpaged c.args.config.now c.args.intake.now c.args.wires.now (g.I.Read.remaining c.args.input.now) e c.in_ok-script.script c.in_ok-script.skipped.items c.in_ok-report.report.flows.items
+    IfErr-weaker c.page_for-page.result _ (λ e. HasNoPage c.args.asked.now.config.now c.args.asked.now.intake c.args.asked.now.wires.now (g.I.Read.remaining c.args.input.now) e)
+    (λ e why. unpaged c.args.asked.now.config.now c.args.asked.now.intake c.args.asked.now.wires.now (g.I.Read.remaining c.args.input.now) e c.in_ok-script.script c.in_ok-script.skipped.items c.in_ok-report.report.flows.items
     c.in_ok-script.ensures.script c.in_ok-report.ensures.report why) c.page_for-page.ensures.refused

@@ -1,9 +1,8 @@
-use Rattle.std.proofs.Common.{rules, ◌≡◌, ◌∙◌, ◌<◌, ℕ, List, ap, sym, length, get_or}
-use Rattle.std.specs.Prelude.{Some, slice_get}
+use Rattle.std.proofs.Common.{rules, ◌∙◌, ◌<◌, ℕ, List, ap, sym, length, get_or}
 use Rattle.wire_script.specs.Frame.{Frame}
 use Rattle.flows.specs.Keys.{frames_at}
 use Rattle.flows.specs.Served.{bytes_by}
-use Rattle.flows.proofs.Offers.{decided-on, frame-at, next-frame, read-at, some-left, as-many}
+use Rattle.flows.proofs.Offers.{decided-on, frame-at, next-read, read-at, some-left, as-many}
 use Rattle.flows.proofs.Turning.{offers-next}
 use Rattle.flows.proofs.rx_source.RxSource.offer.Goals as goal
 
@@ -20,15 +19,11 @@ invariant_of-self-then-decided g c =
 pub returns-then-decided-clause-one : goal.returns-then-decided-clause-one
 returns-then-decided-clause-one g c =
     let i = c.self.inside in let f = c.index-self-self.result in
-    let low : i.next < length i.places.now = some-left i.script.now i.places.now i.next c.self.invariant.0.so_far.few (search rules) in
-    let at : slice_get i.script.now (get_or i.places.now i.next 0) ≡ Some f = read-at i.script.now (get_or i.places.now i.next 0) f f (search rules) (search rules) in
-    let next = next-frame i.script.now i.places.now i.next f low at in
+    let next = next-read i.script.now i.places.now i.next f c.self.invariant.0.so_far.few (search rules) (search rules) (search rules) in
     offers-next (g.G.Gate.answers c.args.gate.now) c.args.number c.args.self.now _ f.bytes c.in-Ok.offer _ (search rules) (rw (← c.self.view_is) next) (search rules) c.is_decided-decided.ensures
 
 pub returns-else-decided-clause-one : goal.returns-else-decided-clause-one
 returns-else-decided-clause-one g c =
     let i = c.self.inside in let f = c.index-self-self.result in
-    let low : i.next < length i.places.now = some-left i.script.now i.places.now i.next c.self.invariant.0.so_far.few (search rules) in
-    let at : slice_get i.script.now (get_or i.places.now i.next 0) ≡ Some f = read-at i.script.now (get_or i.places.now i.next 0) f f (search rules) (search rules) in
-    let next = next-frame i.script.now i.places.now i.next f low at in
+    let next = next-read i.script.now i.places.now i.next f c.self.invariant.0.so_far.few (search rules) (search rules) (search rules) in
     offers-next (g.G.Gate.answers c.args.gate.now) c.args.number c.args.self.now _ f.bytes c.in-Ok.offer _ (search rules) (rw (← c.self.view_is) next) (search rules) c.is_decided-decided.ensures
