@@ -17,3 +17,15 @@ pub const QUEUES: QueuePlan = QueuePlan {
     lists: false,
     shown: NOTES,
 };
+
+/// The two lists of four moves of seed 1 on those queues.
+pub const TWO_LISTS: &str = "r0 A1 50788\n\
+     t0 B1 4685 14 0 0 31\n\
+     t0 B1 44665 17 1 1 31\n\
+     t0 B7\n\
+     # end\n\
+     t0 B1 13746 22 1 1 22\n\
+     t0 B1 31314 1187 0 0 1243\n\
+     r0 A1 16182\n\
+     t0 B7\n\
+     # end\n";

@@ -1,25 +1,14 @@
 //! The command `schedules`, from its words to its lists.
 
+use crate::tests::lists::TWO_LISTS;
 use crate::tests::runs::{Host, outcome_of};
 use crate::tests::told::{comes_to_text, goes_on};
 use crate::tests::wanted::{holds, same};
 use std::alloc::Global;
 
-/// The two lists of four moves of seed 1.
-const LISTS: &str = "r0 A1 50788\n\
-     t0 B1 4685 14 0 0 31\n\
-     t0 B1 44665 17 1 1 31\n\
-     t0 B7\n\
-     # end\n\
-     t0 B1 13746 22 1 1 22\n\
-     t0 B1 31314 1187 0 0 1243\n\
-     r0 A1 16182\n\
-     t0 B7\n\
-     # end\n";
-
 /// Words after a seed and four moves, and their output and faults.
 const ROWS: &[(&[&str], (&str, &str))] = &[
-    (&["--count", "2"], (LISTS, "")),
+    (&["--count", "2"], (TWO_LISTS, "")),
     (&["--count", "0"], ("", "")),
     (&["--ring", "9"], ("", "refused 12 ring length\n")),
     (&["--pairs", "0"], ("", "refused 12 ring length\n")),

@@ -328,13 +328,8 @@ fn the_help_of_a_command_has_its_example(rt: HostRuntime) {
 #[test]
 fn the_help_of_each_command_says_how_to_explain_a_refusal(rt: HostRuntime) {
     for command in COMMANDS {
-        has_page(
-            &rt,
-            rt.alloc(),
-            Page::Help,
-            &[*command, "--help"],
-            EXPLAINED,
-        );
+        let words = [*command, "--help"];
+        has_page(&rt, rt.alloc(), Page::Help, &words, EXPLAINED);
     }
 }
 

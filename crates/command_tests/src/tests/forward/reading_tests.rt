@@ -6,7 +6,7 @@ use crate::tests::forward::captured::{
 use crate::tests::forward::file_tests::put;
 use crate::tests::runs::{Host, RunResult, outcome_of, told_by, typed_by};
 use crate::tests::streams::Input;
-use crate::tests::told::is_told;
+use crate::tests::told::{self, each_comes_to, is_told};
 use std::alloc::Global;
 
 /// The header of a record of 13 bytes, and a frame of 13 bytes.
@@ -93,14 +93,54 @@ const FILES: &[(&str, Content)] = &[
     ("reading_good.pcap", &[HEADER, AT_0, BYTES, AT_1, LETTERS]),
 ];
 
-const FORWARDED: &[Row] = &[
-    Row {
-        words: &["forward", "--capture", "0:0=reading_mixed.pcap"],
-        input: &[],
-        output: "",
-        faults: "reading_mixed.pcap: record 1: refused 94 captured short\n",
-        shown: "",
-    },
+/// Runs that show nothing on the screen.
+const FORWARDED: &[told::Row] = &[
+    (
+        &["forward", "--capture", "0:0=reading_mixed.pcap"],
+        "",
+        Err("reading_mixed.pcap: record 1: refused 94 captured short\n"),
+    ),
+    (
+        &[
+            "forward",
+            "--quiet",
+            "--limit",
+            "1",
+            "--capture",
+            "0:0=reading_good.pcap",
+        ],
+        "",
+        Ok(
+            "flow 0 0 offered 1 stored 1 dropped 0 oversize 0 taken 1 posted 1 tx-dropped 0 wire 1 left 0 ended drained\n\
+             flow 1 0 offered 0 stored 0 dropped 0 oversize 0 taken 0 posted 0 tx-dropped 0 wire 0 left 0 ended drained\n",
+        ),
+    ),
+    (
+        &[
+            "forward",
+            "--limit",
+            "1",
+            "--capture",
+            "0:0=reading_good.pcap",
+        ],
+        "0 0 fill 14 05\n1 0 fill 14 06\n",
+        Ok(
+            "0 0 0607060606060606060606060606\n\
+             1 0 00020a0d23667f80feff0000000a\n\
+             1 0 0506050505050505050505050505\n\
+             flow 0 0 offered 2 stored 2 dropped 0 oversize 0 taken 2 posted 2 tx-dropped 0 wire 2 left 0 ended drained\n\
+             flow 1 0 offered 1 stored 1 dropped 0 oversize 0 taken 1 posted 1 tx-dropped 0 wire 1 left 0 ended drained\n",
+        ),
+    ),
+    (
+        &["forward", "--capture", "0:0=reading_good.pcap"],
+        "# a comment\n0 0 fill 13 05\n",
+        Err("line 2: refused 75 frame length\n"),
+    ),
+];
+
+/// Runs without an input that skip records, and say so on the screen.
+const SKIPPING: &[Row] = &[
     Row {
         words: &[
             "forward",
@@ -143,51 +183,13 @@ const FORWARDED: &[Row] = &[
         faults: "",
         shown: "reading_mixed.pcap: skipped truncated 0 snapped 1 long 0 short 0\n",
     },
-    Row {
-        words: &[
-            "forward",
-            "--quiet",
-            "--limit",
-            "1",
-            "--capture",
-            "0:0=reading_good.pcap",
-        ],
-        input: &[],
-        output: "flow 0 0 offered 1 stored 1 dropped 0 oversize 0 taken 1 posted 1 tx-dropped 0 wire 1 left 0 ended drained\n\
-         flow 1 0 offered 0 stored 0 dropped 0 oversize 0 taken 0 posted 0 tx-dropped 0 wire 0 left 0 ended drained\n",
-        faults: "",
-        shown: "",
-    },
-    Row {
-        words: &[
-            "forward",
-            "--limit",
-            "1",
-            "--capture",
-            "0:0=reading_good.pcap",
-        ],
-        input: &[b"0 0 fill 14 05\n1 0 fill 14 06\n"],
-        output: "0 0 0607060606060606060606060606\n\
-         1 0 00020a0d23667f80feff0000000a\n\
-         1 0 0506050505050505050505050505\n\
-         flow 0 0 offered 2 stored 2 dropped 0 oversize 0 taken 2 posted 2 tx-dropped 0 wire 2 left 0 ended drained\n\
-         flow 1 0 offered 1 stored 1 dropped 0 oversize 0 taken 1 posted 1 tx-dropped 0 wire 1 left 0 ended drained\n",
-        faults: "",
-        shown: "",
-    },
-    Row {
-        words: &["forward", "--capture", "0:0=reading_good.pcap"],
-        input: &[b"# a comment\n0 0 fill 13 05\n"],
-        output: "",
-        faults: "line 2: refused 75 frame length\n",
-        shown: "",
-    },
 ];
 
 #[test]
 fn the_records_that_the_options_select_are_forwarded_before_the_script(rt: HostRuntime) {
     put(&rt, rt.alloc(), FILES);
-    each_is_told(&rt, rt.alloc(), FORWARDED)
+    each_comes_to(&rt, rt.alloc(), FORWARDED);
+    each_is_told(&rt, rt.alloc(), SKIPPING)
 }
 
 const GOOD: &[&str] = &["forward", "--quiet", "--capture", "0:0=typed_good.pcap"];

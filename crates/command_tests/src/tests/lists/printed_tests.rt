@@ -1,6 +1,6 @@
 //! The printed text of lists.
 
-use crate::tests::lists::QUEUES;
+use crate::tests::lists::{QUEUES, TWO_LISTS};
 use crate::tests::streams::{Input, Output};
 use crate::tests::wanted::{holds, same};
 use commands::{NOTES, replay_text};
@@ -28,18 +28,6 @@ const REQUEST: ScheduleRequest = ScheduleRequest {
     expect: None,
 };
 
-/// The output of that request.
-const LISTS: &str = "r0 A1 50788\n\
-     t0 B1 4685 14 0 0 31\n\
-     t0 B1 44665 17 1 1 31\n\
-     t0 B7\n\
-     # end\n\
-     t0 B1 13746 22 1 1 22\n\
-     t0 B1 31314 1187 0 0 1243\n\
-     r0 A1 16182\n\
-     t0 B7\n\
-     # end\n";
-
 /// The output of a request that succeeds.
 fn printed<A: Abort>(rt: &A, alloc: Global, request: &ScheduleRequest) -> String {
     let (mut output, mut faults) = (Output::new(alloc), Output::new(alloc));
@@ -51,7 +39,7 @@ fn printed<A: Abort>(rt: &A, alloc: Global, request: &ScheduleRequest) -> String
 #[test]
 fn lists_stand_one_behind_another(rt: HostRuntime) {
     let text = printed(&rt, rt.alloc(), &REQUEST);
-    same(&rt, text.as_str(), LISTS);
+    same(&rt, text.as_str(), TWO_LISTS);
 }
 
 /// One list, with its expected text.
@@ -107,8 +95,8 @@ fn is_refused<A: Abort>(
 
 #[test]
 fn an_output_that_fails_has_a_beginning(rt: HostRuntime) {
-    for room in 0..LISTS.len() {
-        let wanted = &LISTS.as_bytes()[..room];
+    for room in 0..TWO_LISTS.len() {
+        let wanted = &TWO_LISTS.as_bytes()[..room];
         is_refused(
             &rt,
             rt.alloc(),
