@@ -6,6 +6,7 @@ use Rattle.refusals.specs.declared.errors.CaptureError.{CaptureError}
 use Rattle.refusals.specs.declared.errors.CaptureError.TheVariants.{TooMany}
 use Rattle.capture.specs.declared.entry.Entry.{Entry}
 use Rattle.capture.specs.declared.entry.Entry.TheVariants.{Frame, Faulty, Unread}
+use Rattle.capture.specs.declared.entry.Fault.{Fault}
 use Rattle.capture.specs.declared.entry.Fault.TheVariants.{Truncated, Snapped, Long, Short}
 use Rattle.capture.specs.declared.options.ReadOptions.{ReadOptions}
 use Rattle.capture.specs.declared.options.Skipped.{Skipped}
@@ -48,26 +49,23 @@ frame_in (Unread e) = None
 abbrev pub frames_of : List Entry → List Record
 frames_of entries = filter_map frame_in entries
 
--- The number of records with each fault.
+-- Whether a record has such a fault.
+abbrev pub has_fault : (Fault → Bool) → Entry → Bool
+has_fault is_such (Faulty f) = is_such f.fault
+has_fault is_such (Frame r) = false
+has_fault is_such (Unread e) = false
+
 abbrev pub is_truncated : Entry → Bool
-is_truncated (Frame r) = false
-is_truncated (Unread e) = false
-is_truncated (Faulty f) = elim f.fault [ Truncated ↦ true | _ ↦ false ]
+is_truncated = has_fault (λ fault. elim fault [ Truncated ↦ true | _ ↦ false ])
 
 abbrev pub is_snapped : Entry → Bool
-is_snapped (Frame r) = false
-is_snapped (Unread e) = false
-is_snapped (Faulty f) = elim f.fault [ Snapped ↦ true | _ ↦ false ]
+is_snapped = has_fault (λ fault. elim fault [ Snapped ↦ true | _ ↦ false ])
 
 abbrev pub is_long : Entry → Bool
-is_long (Frame r) = false
-is_long (Unread e) = false
-is_long (Faulty f) = elim f.fault [ Long ↦ true | _ ↦ false ]
+is_long = has_fault (λ fault. elim fault [ Long ↦ true | _ ↦ false ])
 
 abbrev pub is_short : Entry → Bool
-is_short (Frame r) = false
-is_short (Unread e) = false
-is_short (Faulty f) = elim f.fault [ Short ↦ true | _ ↦ false ]
+is_short = has_fault (λ fault. elim fault [ Short ↦ true | _ ↦ false ])
 
 abbrev pub skipped_of : List Entry → Skipped
 skipped_of entries = record {

@@ -1,7 +1,7 @@
 //! The results of steps of a controller, or of the driver beside it.
 
 use controller::{CtlError, Offer, Turn};
-use ring_tests::Random;
+use ring_tests::{Random, YesOrNo};
 use std::alloc::Global;
 use std::process::Abort;
 
@@ -18,30 +18,10 @@ pub(crate) enum Expected {
     Refused(CtlError),
 }
 
-impl Expected {
-    /// Yes or no.
-    pub(crate) fn whether(holds: bool) -> Expected {
-        if holds {
-            Expected::True
-        } else {
-            Expected::False
-        }
-    }
+impl YesOrNo for Expected {
+    const YES: Expected = Expected::True;
 
-    pub(crate) fn turned(told: Result<Turn, CtlError>) -> Expected {
-        match told {
-            Ok(turn) => Expected::Turned(turn),
-            Err(refusal) => Expected::Refused(refusal),
-        }
-    }
-
-    /// The count, or no.
-    pub(crate) fn counted(count: Option<u32>) -> Expected {
-        match count {
-            Some(count) => Expected::Count(count),
-            None => Expected::False,
-        }
-    }
+    const NO: Expected = Expected::False;
 }
 
 /// How many rows had their results, and whether the controller's end was between two frames of an enabled queue

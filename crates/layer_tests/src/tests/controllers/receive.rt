@@ -5,7 +5,7 @@ use crate::tests::controllers::expected::{Bytes, Expected, Walked};
 use crate::walked;
 use buffer_pool::Stash;
 use controller::{RxController, Tally};
-use ring_tests::{Tells, asked, full_stash, put_back, renewed, told_so};
+use ring_tests::{Tells, YesOrNo, asked, full_stash, put_back, renewed, told_so};
 use rx_ring::{Control, ControllerEnd, DriverEnd, Poll, RxDriverEnd, RxRing};
 use std::alloc::Global;
 use std::process::Abort;
@@ -195,7 +195,7 @@ impl Tells for Receive {
         match step {
             Step::Enable => Expected::whether(self.enable()),
             Step::Disable => Expected::whether(self.disable()),
-            Step::Renew => Expected::counted(self.renew()),
+            Step::Renew => self.renew().map_or(Expected::False, Expected::Count),
             Step::Fill => Expected::Count(self.fill()),
             Step::Offer(len, from) => self.offer(len, from),
             Step::Take(from, full, last) => Expected::whether(self.take(from, full, last)),

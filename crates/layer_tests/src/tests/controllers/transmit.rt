@@ -12,7 +12,7 @@ use crate::walked;
 use buffer_pool::Stash;
 use controller::{CtlError, Turn, TxController, Wire};
 use limits::{LEAST_FRAME, MOST_FRAME, MOST_SEGMENTS};
-use ring_tests::{Tells, asked, full_stash, put_back, renewed, told_so};
+use ring_tests::{Tells, YesOrNo, asked, full_stash, put_back, renewed, told_so};
 use std::alloc::Global;
 use std::process::Abort;
 use tx_ring::{Completion, Control, ControllerEnd, DriverEnd, TxDriverEnd, TxRing};
@@ -263,7 +263,7 @@ impl Tells for Transmit {
             Step::Disable => Expected::whether(self.disable()),
             Step::Renew => Expected::whether(self.renew().is_some()),
             Step::Post(len, from, bsize, rs) => Expected::whether(self.post(len, from, bsize, rs)),
-            Step::Turn => Expected::turned(self.turn()),
+            Step::Turn => self.turn().map_or_else(Expected::Refused, Expected::Turned),
             Step::HasReport => Expected::whether(self.driver.poll_report(&self.ring)),
             Step::Clean => Expected::Count(self.clean()),
             Step::HasSent(count) => Expected::whether(self.has_sent(count)),

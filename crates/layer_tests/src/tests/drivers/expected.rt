@@ -1,6 +1,7 @@
 //! Rows of a driver's calls and their expected results.
 
 use driver::DriverError;
+use ring_tests::YesOrNo;
 
 /// A call of a driver or of the device beside it, or an inspection.
 #[derive(Clone, Copy, Drop)]
@@ -32,29 +33,10 @@ pub(crate) enum Expected {
     Refused(DriverError),
 }
 
-impl Expected {
-    /// Yes or no.
-    pub(crate) fn whether(holds: bool) -> Expected {
-        if holds {
-            Expected::True
-        } else {
-            Expected::False
-        }
-    }
+impl YesOrNo for Expected {
+    const YES: Expected = Expected::True;
 
-    pub(crate) fn count(told: Result<usize, DriverError>) -> Expected {
-        match told {
-            Ok(count) => Expected::Count(count),
-            Err(refusal) => Expected::Refused(refusal),
-        }
-    }
-
-    pub(crate) fn done(told: Result<(), DriverError>) -> Expected {
-        match told {
-            Ok(()) => Expected::True,
-            Err(refusal) => Expected::Refused(refusal),
-        }
-    }
+    const NO: Expected = Expected::False;
 }
 
 /// Makes a call on a struct with fields `ring`, `driver`, `stash` and `packets` and methods `answer` and `own`, and
@@ -63,22 +45,30 @@ impl Expected {
 macro_rules! made {
     ($both:expr, $call:expr, $batch:ident) => {
         match $call {
-            Call::Enable => match $both.driver.enable(&$both.ring) {
-                Ok(enabled) => Expected::whether(enabled),
-                Err(refusal) => Expected::Refused(refusal),
-            },
-            Call::AskDisable => Expected::done($both.driver.ask_disable(&$both.ring)),
+            Call::Enable => $both
+                .driver
+                .enable(&$both.ring)
+                .map_or_else(Expected::Refused, Expected::whether),
+            Call::AskDisable => $both
+                .driver
+                .ask_disable(&$both.ring)
+                .map_or_else(Expected::Refused, |()| Expected::True),
             Call::FinishDisable => match $both.driver.finish_disable(&$both.ring) {
                 Some(left) => Expected::Count(left as usize),
                 None => Expected::False,
             },
-            Call::Reclaim => Expected::count($both.driver.reclaim_into(&$both.ring, &mut $both.stash)),
-            Call::Renew => Expected::done($both.driver.renew(&$both.ring)),
-            Call::Batch => Expected::count($both.driver.$batch(
-                &$both.ring,
-                &mut $both.stash,
-                &mut $both.packets,
-            )),
+            Call::Reclaim => $both
+                .driver
+                .reclaim_into(&$both.ring, &mut $both.stash)
+                .map_or_else(Expected::Refused, Expected::Count),
+            Call::Renew => $both
+                .driver
+                .renew(&$both.ring)
+                .map_or_else(Expected::Refused, |()| Expected::True),
+            Call::Batch => $both
+                .driver
+                .$batch(&$both.ring, &mut $both.stash, &mut $both.packets)
+                .map_or_else(Expected::Refused, Expected::Count),
             Call::Answer => Expected::whether($both.answer()),
             Call::Room => Expected::Count($both.driver.room() as usize),
             Call::AtHand => Expected::Count($both.stash.len()),

@@ -8,7 +8,7 @@ use arrayvec::ArrayVec;
 use buffer_pool::{Packet, Stash};
 use driver::{DriverError, MOST_BATCH, QueueDriver, RxDriver};
 use limits::BUFFER_BYTES;
-use ring_tests::{Storer, Tells, full_stash};
+use ring_tests::{Storer, Tells, YesOrNo, full_stash};
 use rx_ring::RxRing;
 use std::alloc::Global;
 use std::mem;

@@ -9,7 +9,7 @@ use arrayvec::ArrayVec;
 use buffer_pool::{Buf, Packet, STASH_BUFFERS, Stash, Stock};
 use descriptor::TxRead;
 use driver::{DriverError, MOST_BATCH, QueueDriver, TxDriver};
-use ring_tests::{Tells, put_back};
+use ring_tests::{Tells, YesOrNo, put_back};
 use std::alloc::Global;
 use std::process::Abort;
 use tx_ring::{Completion, ControllerEnd, TxControllerEnd, TxRing, close};
@@ -43,8 +43,8 @@ pub(crate) enum TxCall {
     Ready,
     /// Sends descriptors: whether there are as many as given, and each asks for a report as given.
     Asks(&'static [bool]),
-    /// Sends a descriptor: whether there is one with this second word.
-    Word(u64),
+    /// Sends descriptors: whether there are as many as given, each with the second word given.
+    Words(&'static [u64]),
     Clean,
     /// Leaves room for this number of buffers in the stash.
     Fill(usize),
@@ -111,10 +111,14 @@ impl Queue {
         Some(read)
     }
 
-    fn ask(&mut self, reports: &[bool]) -> bool {
-        for rs in reports {
-            if !asks(self.send(), *rs) {
-                return false;
+    /// Sends a descriptor for each of these. Returns whether there was one each time, for which `has` holds.
+    fn send_each<T: Copy, F: Fn(TxRead, T) -> bool + Drop>(&mut self, wanted: &[T], has: F) -> bool
+        requires { F.IsAlwaysCallable has }
+    {
+        for one in wanted {
+            match self.send() {
+                Some(read) if has(read, *one) => {}
+                _ => return false,
             }
         }
         true
@@ -143,8 +147,15 @@ impl Queue {
     fn own(&mut self, call: TxCall) -> Expected {
         match call {
             TxCall::Ready => return Expected::Count(self.ready() as usize),
-            TxCall::Asks(reports) => return Expected::whether(self.ask(reports)),
-            TxCall::Word(word) => return Expected::whether(has_word(self.send(), word)),
+            TxCall::Asks(reports) => {
+                return Expected::whether(self.send_each(reports, |read, rs| read.rs == rs));
+            }
+            TxCall::Words(words) => {
+                return Expected::whether(self.send_each(
+                    words,
+                    |read, word| read.second_word() == word,
+                ));
+            }
             TxCall::Clean => return Expected::Count(self.driver.clean(&self.ring, &mut self.stash)),
             TxCall::Add(count, segments, len) => self.add(count, segments, len),
             TxCall::Fill(room) => self.fill_stash(room),
@@ -163,22 +174,6 @@ fn numbers(slots: &[Option<Buf>]) -> Places {
         }
     }
     places
-}
-
-/// Whether there is a descriptor that asks for a report as given by `rs`.
-fn asks(read: Option<TxRead>, rs: bool) -> bool {
-    match read {
-        Some(read) => read.rs == rs,
-        None => false,
-    }
-}
-
-/// Whether there is a descriptor with this second word.
-fn has_word(read: Option<TxRead>, word: u64) -> bool {
-    match read {
-        Some(read) => read.second_word() == word,
-        None => false,
-    }
 }
 
 /// A packet of `segments` segments, 15 at most, of `len` bytes each; of fewer if the stock runs out of buffers.

@@ -97,36 +97,23 @@ const TOO_LONG: &[&[Row]] = &[
     ],
 ];
 
+/// The second words of the descriptors of six packets. The fourth and the sixth ask for a report.
+const SIX_WORDS: &[u64] = &[
+    0x000f_0000_2330_003c,
+    0x000f_0000_2330_003c,
+    0x000f_0000_2330_003c,
+    0x000f_0000_2b30_003c,
+    0x000f_0000_2330_003c,
+    0x000f_0000_2b30_003c,
+];
+
 /// Six packets in one batch.
 const SIX: &[&[Row]] = &[
     &[(Call::Own(TxCall::Add(6, 1, 60)), Expected::True)],
     ENABLED,
     &[
         (Call::Batch, Expected::Count(6)),
-        (
-            Call::Own(TxCall::Word(0x000f_0000_2330_003c)),
-            Expected::True,
-        ),
-        (
-            Call::Own(TxCall::Word(0x000f_0000_2330_003c)),
-            Expected::True,
-        ),
-        (
-            Call::Own(TxCall::Word(0x000f_0000_2330_003c)),
-            Expected::True,
-        ),
-        (
-            Call::Own(TxCall::Word(0x000f_0000_2b30_003c)),
-            Expected::True,
-        ),
-        (
-            Call::Own(TxCall::Word(0x000f_0000_2330_003c)),
-            Expected::True,
-        ),
-        (
-            Call::Own(TxCall::Word(0x000f_0000_2b30_003c)),
-            Expected::True,
-        ),
+        (Call::Own(TxCall::Words(SIX_WORDS)), Expected::True),
         (Call::Own(TxCall::Clean), Expected::Count(6)),
         (Call::Own(TxCall::Clean), Expected::Count(0)),
     ],
