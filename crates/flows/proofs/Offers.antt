@@ -182,10 +182,10 @@ as-many script places next low = let e = length-map places (λ k. bytes_at (slic
 pub next-frame : (script : List Frame) (places : List ℕ) (next : ℕ) (f : Frame) → next < length places → slice_get script (get_or places next 0) ≡ Some f → slice_get (frames_at script places) next ≡ Some f.bytes
 next-frame script places next f low e = read-at (frames_at script places) next f.bytes f.bytes (as-many script places next low) (sym (frame-at script places next 0 f low e))
 
--- which is the one that was read at its place, where not all were decided
-pub next-read : (script : List Frame) (places : List ℕ) (next : ℕ) (f : Frame) → next ≤ length (frames_at script places) → next ≢ length places
-    → get_or places next 0 < length script → f ≡ get_or script (get_or places next 0) f → slice_get (frames_at script places) next ≡ Some f.bytes
-next-read script places next f few more within is = next-frame script places next f (some-left script places next few more) (read-at script (get_or places next 0) f f within is)
+-- which is the one that was read at its place
+pub next-read : (script : List Frame) (places : List ℕ) (next : ℕ) (f : Frame) → next < length places → get_or places next 0 < length script
+    → f ≡ get_or script (get_or places next 0) f → slice_get (frames_at script places) next ≡ Some f.bytes
+next-read script places next f low within is = next-frame script places next f low (read-at script (get_or places next 0) f f within is)
 
 same-config : (c new : Receiving) (f : Bytes) (offer : Offer) → Offered c f (Ok offer) new → (new.bsize ≡ c.bsize) × (new.drop_en ≡ c.drop_en)
 same-config c new f Stored w = (ap (λ (r : Receiving). r.bsize) w.same, ap (λ (r : Receiving). r.drop_en) w.same)

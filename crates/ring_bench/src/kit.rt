@@ -1,9 +1,9 @@
 //! The common parts of the benchmarks.
 //!
 //! `words` parses the options, `supply` makes the frame and the buffers, `patience` lets a thread wait, and `tally`
-//! sums up the frames that were read. `run` names what two threads need. `enabling` enables a queue of either direction. `storing` and `fetching` are the
-//! device's steps at a receive ring and at a transmit ring. `timing` measures and prints the time, and `outcome`
-//! combines results.
+//! sums up the frames that were read. `run` names what two threads need. `enabling` enables a queue of either direction.
+//! `storing` and `fetching` are the device's steps at a receive ring and at a transmit ring. `timing` measures and prints
+//! the time, and `outcome` combines results.
 //!
 //! `track` makes a receive ring and a transmit ring, with drivers that forward (`forwarding`). `meeting` lets the ends
 //! of both rings meet.

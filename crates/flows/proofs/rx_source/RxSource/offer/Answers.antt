@@ -19,11 +19,13 @@ invariant_of-self-then-decided g c =
 pub returns-then-decided-clause-one : goal.returns-then-decided-clause-one
 returns-then-decided-clause-one g c =
     let i = c.self.inside in let f = c.index-self-self.result in
-    let next = next-read i.script.now i.places.now i.next f c.self.invariant.0.so_far.few (search rules) (search rules) (search rules) in
+    let low : i.next < length i.places.now = some-left i.script.now i.places.now i.next c.self.invariant.0.so_far.few (search rules) in
+    let next = next-read i.script.now i.places.now i.next f low (search rules) (search rules) in
     offers-next (g.G.Gate.answers c.args.gate.now) c.args.number c.args.self.now _ f.bytes c.in-Ok.offer _ (search rules) (rw (← c.self.view_is) next) (search rules) c.is_decided-decided.ensures
 
 pub returns-else-decided-clause-one : goal.returns-else-decided-clause-one
 returns-else-decided-clause-one g c =
     let i = c.self.inside in let f = c.index-self-self.result in
-    let next = next-read i.script.now i.places.now i.next f c.self.invariant.0.so_far.few (search rules) (search rules) (search rules) in
+    let low : i.next < length i.places.now = some-left i.script.now i.places.now i.next c.self.invariant.0.so_far.few (search rules) in
+    let next = next-read i.script.now i.places.now i.next f low (search rules) (search rules) in
     offers-next (g.G.Gate.answers c.args.gate.now) c.args.number c.args.self.now _ f.bytes c.in-Ok.offer _ (search rules) (rw (← c.self.view_is) next) (search rules) c.is_decided-decided.ensures
