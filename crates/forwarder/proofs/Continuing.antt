@@ -80,10 +80,13 @@ still tally counts n pens (f ∷ fs) (g ∷ gs) many many_f many_g none_f none_g
   where
     tally-same : (x : Tally) → tally_sum x nothing ≡ x
     tally-same x = search rules
+
     driven-same : (x : Driven) → driven_sum x none_taken ≡ x
     driven-same x = search rules
+
     tally-still : (x : Tally) → TallyGoesOn x nothing x
     tally-still x = record { sums = λ _. sym (tally-same x); first = λ e. e }
+
     driven-still : (x : Driven) → DrivenGoesOn x none_taken x
     driven-still x = record { sums = λ _. sym (driven-same x); first = λ e. e }
 
