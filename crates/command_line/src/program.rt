@@ -186,7 +186,7 @@ const SECOND: &[CommandEntry] = &[
             },
             Param::Flag {
                 id: "json",
-                help: "Print the counts of each flow as a JSON object",
+                help: "Print the counts of each flow and of each port as JSON objects",
             },
             Param::Flag {
                 id: "progress",
