@@ -10,7 +10,6 @@
 #![tactic(auto)]
 
 mod answering;
-mod bounds;
 pub mod captured;
 mod cuts;
 mod page;
@@ -18,6 +17,5 @@ pub mod progress;
 mod running;
 
 pub use answering::{answer, perform};
-pub use bounds::{Host, Screen};
 pub use page::{forward, forward_script};
 pub use running::{EXIT_USAGE, run};

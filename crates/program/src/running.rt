@@ -14,7 +14,6 @@ ghost use Rattle.requests.specs.Files.{streamed_port};
 ghost use Rattle.settings.specs.declared.config.Config.{Config};
 ghost use Rattle.command_line.specs.ParsedCommands.{IsUnshown, Says, ParsedCommand};
 
-use crate::bounds::{Host, Screen};
 use crate::captured::{self, Forwarding};
 use clap::error::ErrorKind;
 use command_line::{Asked, asked_of, files_of};
@@ -23,7 +22,12 @@ use forward_io::captured::Intake;
 use forwarder::Config as ForwardConfig;
 use requests::{EXIT_REFUSED, EXIT_SUCCESS, Printing as Printed, Refusal, refuse};
 use std::alloc::Global;
-use std::io::{Read, Write};
+use std::io::{IsTerminal, Read, Write};
+use std::marker::Send;
+use std::rt::Files;
+use std::sync::Wait;
+use std::thread::Threads;
+use std::time::Clock;
 
 /// The exit status of a command line that is not valid.
 pub const EXIT_USAGE: u8 = 2;
@@ -45,7 +49,13 @@ const EXPLAIN: &str = "--explain";
 ///
 /// With the word `--explain`, or if `screen` is a terminal, a second line on `faults` explains a refusal, and
 /// `forward --turns` names on `screen` the flows that were cut before all their frames were offered.
-pub fn run<R: Host, I: Read, W: Write, E: Write, M: Screen>(
+pub fn run<
+    R: Threads + Wait + Clock + Sync + Files,
+    I: Read,
+    W: Write,
+    E: Write,
+    M: Write + IsTerminal + Send,
+>(
     rt: &R,
     alloc: Global,
     words: &[String],
@@ -101,7 +111,13 @@ fn says_explain(words: &[String]) -> bool {
 }
 
 /// Forwards under this configuration, with the files in the words, and returns the status.
-fn forward<R: Host, I: Read, W: Write, E: Write, M: Screen>(
+fn forward<
+    R: Threads + Wait + Clock + Sync + Files,
+    I: Read,
+    W: Write,
+    E: Write,
+    M: Write + IsTerminal + Send,
+>(
     rt: &R,
     alloc: Global,
     words: &[String],
