@@ -38,7 +38,7 @@ pub fn pass<R: Threads + Wait + Sync>(
     let (ring, driver, controller) = RxRing::new(alloc, 8)?;
     let (mut controller, (mut driver, taken)) = thread::join(
         rt,
-        || serve(rt, &ring, controller, frame, frames),
+        || serve(rt, &ring, frame, frames, controller),
         || drive(rt, &ring, driver, stash, frames),
     );
     // the driver took a beginning of what was stored, byte for byte

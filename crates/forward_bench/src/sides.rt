@@ -21,21 +21,7 @@ struct Feed<'a> {
     count: u64,
 }
 
-/// Both sides of one flow.
-#[derive(Drop)]
-struct FlowSides<'a> {
-    driver: DriverFlow<'a>,
-    controller: HotFlow<'a>,
-}
-
-/// Both sides of all flows, in the order of the flows.
-#[derive(Drop)]
-pub(crate) struct Sides<'a> {
-    pub drivers: Vec<DriverFlow<'a>>,
-    pub controllers: Vec<HotFlow<'a>>,
-}
-
-/// Makes both sides of a flow. Splits off a pass for the driver's side.
+/// Makes both sides of a flow, the driver's first. Splits off a pass for the driver's side.
 fn make_side<'a, R: Wait>(
     rt: &R,
     alloc: Global,
@@ -46,7 +32,7 @@ fn make_side<'a, R: Wait>(
     ends: FlowRingEnds,
     pool: &'a Pool,
     pass: &mut PoolPass,
-) -> FlowSides<'a>
+) -> (DriverFlow<'a>, HotFlow<'a>)
     requires lawful { IsLawful config.now }
     requires ends { AreEnds config.now.ring config.now.completion rings.now ends }
     requires pool { IsOf pool.now pass.old }
@@ -63,7 +49,7 @@ fn make_side<'a, R: Wait>(
         feed.frames,
         feed.count,
     );
-    FlowSides { driver, controller }
+    (driver, controller)
 }
 
 /// Makes both sides of each flow. Splits off a pass for each driver.
@@ -91,13 +77,22 @@ pub(crate) fn make_sides<'a, R: Wait>(
         let count = workload.frames_of(number);
         let feed = Feed { frames, count };
         let rings = &flow_rings[number];
-        let side = make_side(rt, alloc, config, number, feed, rings, own, pool, pass);
-        drivers.push_reserved(side.driver);
-        controllers.push_reserved(side.controller);
+        let (driver, controller) = make_side(
+            rt, alloc, config, number, feed, rings, own, pool, pass,
+        );
+        drivers.push_reserved(driver);
+        controllers.push_reserved(controller);
         number += 1;
     }
     Ok(Sides {
         drivers,
         controllers,
     })
+}
+
+/// Both sides of all flows, in the order of the flows.
+#[derive(Drop)]
+pub(crate) struct Sides<'a> {
+    pub drivers: Vec<DriverFlow<'a>>,
+    pub controllers: Vec<HotFlow<'a>>,
 }

@@ -4,25 +4,17 @@ ghost use Rattle.std.specs.Io.KnownBytes.{Keeps};
 ghost use Rattle.requests.specs.declared.answers.TheConstants.{EXIT_SUCCESS, EXIT_REFUSED};
 ghost use Rattle.program.specs.Forwards.{EndsForward, PrintsForward, WithholdsForward};
 
+use crate::bounds::Host;
 use crate::page::forward;
 use forwarder::Config;
 use requests::{EXIT_SUCCESS, Printing, Refusal, print, refuse};
 use std::alloc::Global;
 use std::io::{IsTerminal, Read, Write};
 use std::marker::Send;
-use std::sync::Wait;
-use std::thread::Threads;
-use std::time::Clock;
 
 /// Forwards the script of `input`, and returns an exit status. The page goes to `output`, with status 0. A refusal goes
 /// to `faults` as one line, with status 1, as for the other commands. Progress goes to `screen`, if it is shown.
-pub fn answer<
-    R: Threads + Wait + Clock + Sync,
-    I: Read,
-    W: Write,
-    E: Write,
-    M: Write + IsTerminal + Send,
->(
+pub fn answer<R: Host + Sync, I: Read, W: Write, E: Write, M: Write + IsTerminal + Send>(
     rt: &R,
     alloc: Global,
     config: &Config,
@@ -46,7 +38,7 @@ pub fn answer<
 
 /// Forwards the script of `input`, and prints its page. A refusal other than `Output` leaves `output` unchanged.
 /// A failing `screen` changes nothing.
-pub fn perform<R: Threads + Wait + Clock + Sync, I: Read, W: Write, M: Write + IsTerminal + Send>(
+pub fn perform<R: Host + Sync, I: Read, W: Write, M: Write + IsTerminal + Send>(
     rt: &R,
     alloc: Global,
     config: &Config,

@@ -8,6 +8,7 @@ ghost use Rattle.forward_io.specs.Intakes.{reads_script};
 ghost use Rattle.forward_io.specs.Streams.{outlet};
 ghost use Rattle.requests.specs.Files.{streamed_port};
 
+use crate::bounds::Host;
 use crate::cuts::{Due, explain_cuts};
 use crate::page::forwarded;
 use forward_io::captured::{FileRefusal, Intake, page_for, script_for, targets_of, tell};
@@ -17,9 +18,6 @@ use std::alloc::Global;
 use std::io::{IsTerminal, Read, Write};
 use std::marker::Send;
 use std::rt::Files;
-use std::sync::Wait;
-use std::thread::Threads;
-use std::time::Clock;
 
 /// What `forward` is asked for with captures.
 #[derive(Drop)]
@@ -48,13 +46,7 @@ pub struct Forwarding<'c, 's, 'w> {
 ///
 /// The first of these refusals applies: a wire file that cannot be written, or that is the same file as another or as a
 /// capture, before anything else is done; a capture, in order; the refusals of `forward` for a script; a lack of memory for the output; a wire file; and the output, which is printed last.
-pub fn answer<
-    R: Threads + Wait + Clock + Sync + Files,
-    I: Read,
-    W: Write,
-    E: Write,
-    M: Write + IsTerminal + Send,
->(
+pub fn answer<R: Host + Sync + Files, I: Read, W: Write, E: Write, M: Write + IsTerminal + Send>(
     rt: &R,
     alloc: Global,
     asked: &Forwarding<'_, '_, '_>,
@@ -108,12 +100,7 @@ fn note_cuts<M: Write>(screen: &mut M, turns: u32, explain: bool, why: &str)
 /// Forwards with captures, writes the wire files and prints the output. A refusal before the printing leaves `output`
 /// unchanged. A failing `screen` changes nothing. Appends to `why` what the input shows of a refusal, or the flows that
 /// were cut before all their frames were offered.
-pub fn perform<
-    R: Threads + Wait + Clock + Sync + Files,
-    I: Read,
-    W: Write,
-    M: Write + IsTerminal + Send,
->(
+pub fn perform<R: Host + Sync + Files, I: Read, W: Write, M: Write + IsTerminal + Send>(
     rt: &R,
     alloc: Global,
     asked: &Forwarding<'_, '_, '_>,
@@ -139,7 +126,7 @@ pub fn perform<
 
 /// Writes the wire files. Returns the bytes for standard output, and the text for standard error: the records that were
 /// left out, and the counts if a capture replaces them on standard output.
-fn page_of<R: Threads + Wait + Clock + Sync + Files, I: Read, M: Write + IsTerminal + Send>(
+fn page_of<R: Host + Sync + Files, I: Read, M: Write + IsTerminal + Send>(
     rt: &R,
     alloc: Global,
     asked: &Forwarding<'_, '_, '_>,

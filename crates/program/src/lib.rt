@@ -10,6 +10,7 @@
 #![tactic(auto)]
 
 mod answering;
+mod bounds;
 pub mod captured;
 mod cuts;
 mod page;
@@ -17,5 +18,6 @@ pub mod progress;
 mod running;
 
 pub use answering::{answer, perform};
+pub use bounds::Host;
 pub use page::{forward, forward_script};
 pub use running::{EXIT_USAGE, run};

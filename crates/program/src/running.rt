@@ -14,6 +14,7 @@ ghost use Rattle.requests.specs.Files.{streamed_port};
 ghost use Rattle.settings.specs.declared.config.Config.{Config};
 ghost use Rattle.command_line.specs.ParsedCommands.{IsUnshown, Says, ParsedCommand};
 
+use crate::bounds::Host;
 use crate::captured::{self, Forwarding};
 use clap::error::ErrorKind;
 use command_line::{Asked, asked_of, files_of};
@@ -25,9 +26,6 @@ use std::alloc::Global;
 use std::io::{IsTerminal, Read, Write};
 use std::marker::Send;
 use std::rt::Files;
-use std::sync::Wait;
-use std::thread::Threads;
-use std::time::Clock;
 
 /// The exit status of a command line that is not valid.
 pub const EXIT_USAGE: u8 = 2;
@@ -49,13 +47,7 @@ const EXPLAIN: &str = "--explain";
 ///
 /// With the word `--explain`, or if `screen` is a terminal, a second line on `faults` explains a refusal, and
 /// `forward --turns` names on `screen` the flows that were cut before all their frames were offered.
-pub fn run<
-    R: Threads + Wait + Clock + Sync + Files,
-    I: Read,
-    W: Write,
-    E: Write,
-    M: Write + IsTerminal + Send,
->(
+pub fn run<R: Host + Sync + Files, I: Read, W: Write, E: Write, M: Write + IsTerminal + Send>(
     rt: &R,
     alloc: Global,
     words: &[String],
@@ -111,13 +103,7 @@ fn says_explain(words: &[String]) -> bool {
 }
 
 /// Forwards under this configuration, with the files in the words, and returns the status.
-fn forward<
-    R: Threads + Wait + Clock + Sync + Files,
-    I: Read,
-    W: Write,
-    E: Write,
-    M: Write + IsTerminal + Send,
->(
+fn forward<R: Host + Sync + Files, I: Read, W: Write, E: Write, M: Write + IsTerminal + Send>(
     rt: &R,
     alloc: Global,
     words: &[String],

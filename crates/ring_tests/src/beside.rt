@@ -277,6 +277,19 @@ macro_rules! asked {
     };
 }
 
+/// Lets the controller load the tail if it serves the queue; otherwise the calling method returns `None`. The value is the
+/// note of the load. For a struct with fields `ring` and `controller`.
+#[macro_export]
+macro_rules! looked {
+    ($both:expr, $note:path) => {{
+        if !$both.controller.is_serving() {
+            return None;
+        }
+        let count = $both.controller.look(&$both.ring);
+        u16::try_from(count).ok().map($note)
+    }};
+}
+
 /// Makes a step of the handshake by a call, if its condition holds. For a struct with fields `ring`, `driver` and
 /// `controller` and a method `answer`.
 #[macro_export]

@@ -43,9 +43,9 @@ fn store(ring: &RxRing, controller: &mut RxControllerEnd, frame: &[u8]) -> bool
 pub(crate) fn serve<R: Wait>(
     rt: &R,
     ring: &RxRing,
-    mut controller: RxControllerEnd,
     frame: &[u8],
     frames: u32,
+    mut controller: RxControllerEnd,
 ) -> RxControllerEnd
     requires own { controller.table ≡ ring.now }
     requires frame { (14 ≤ length frame.now) × (length frame.now ≤ 2048) }

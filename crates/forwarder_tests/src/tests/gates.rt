@@ -425,10 +425,6 @@ impl Gate for Missed {
 
     fn pass(&self, who: Who, event: Event) -> bool {
         match (who, event) {
-            (Who::Driver(0), Event::TxBatch) => {
-                self.batch.store(true, Ordering::SeqCst);
-                self.wait(&self.over);
-            }
             (Who::Controller(0), Event::Offer) => {
                 self.wait(&self.batch);
                 self.offer.store(true, Ordering::SeqCst);
@@ -437,6 +433,10 @@ impl Gate for Missed {
                 if self.offer.load(Ordering::SeqCst) {
                     self.over.store(true, Ordering::SeqCst);
                 }
+            }
+            (Who::Driver(0), Event::TxBatch) => {
+                self.batch.store(true, Ordering::SeqCst);
+                self.wait(&self.over);
             }
             _ => {}
         }

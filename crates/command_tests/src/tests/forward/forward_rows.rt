@@ -135,8 +135,12 @@ pub const SHAPED: &[Row] = &[
         Ok(
             "0 0 ff00ffffffffffffffffffffffffffffffffffffffffffffffffffffffffffffffffffffffffffffffffffffffffffffffffffffffffffffffffffff\n\
              1 0 0506050505050505050505050505\n\
-             {\"port\":0,\"queue\":0,\"rx_port\":0,\"rx_queue\":0,\"tx_port\":1,\"tx_queue\":0,\"offered\":1,\"stored\":1,\"dropped\":0,\"oversize\":0,\"taken\":1,\"posted\":1,\"tx_dropped\":0,\"wire\":1,\"left\":0,\"rx_packets\":1,\"rx_bytes\":14,\"rx_dropped\":0,\"tx_packets\":1,\"tx_bytes\":14,\"ended\":\"drained\"}\n\
-             {\"port\":1,\"queue\":0,\"rx_port\":1,\"rx_queue\":0,\"tx_port\":0,\"tx_queue\":0,\"offered\":1,\"stored\":1,\"dropped\":0,\"oversize\":0,\"taken\":1,\"posted\":1,\"tx_dropped\":0,\"wire\":1,\"left\":0,\"rx_packets\":1,\"rx_bytes\":60,\"rx_dropped\":0,\"tx_packets\":1,\"tx_bytes\":60,\"ended\":\"drained\"}\n\
+             {\"port\":0,\"queue\":0,\"rx_port\":0,\"rx_queue\":0,\"tx_port\":1,\"tx_queue\":0,\
+             \"offered\":1,\"stored\":1,\"dropped\":0,\"oversize\":0,\"taken\":1,\"posted\":1,\"tx_dropped\":0,\"wire\":1,\"left\":0,\
+             \"rx_packets\":1,\"rx_bytes\":14,\"rx_dropped\":0,\"tx_packets\":1,\"tx_bytes\":14,\"ended\":\"drained\"}\n\
+             {\"port\":1,\"queue\":0,\"rx_port\":1,\"rx_queue\":0,\"tx_port\":0,\"tx_queue\":0,\
+             \"offered\":1,\"stored\":1,\"dropped\":0,\"oversize\":0,\"taken\":1,\"posted\":1,\"tx_dropped\":0,\"wire\":1,\"left\":0,\
+             \"rx_packets\":1,\"rx_bytes\":60,\"rx_dropped\":0,\"tx_packets\":1,\"tx_bytes\":60,\"ended\":\"drained\"}\n\
              {\"port\":0,\"rx_packets\":1,\"rx_bytes\":14,\"rx_dropped\":0,\"tx_packets\":1,\"tx_bytes\":60,\"tx_dropped\":0}\n\
              {\"port\":1,\"rx_packets\":1,\"rx_bytes\":60,\"rx_dropped\":0,\"tx_packets\":1,\"tx_bytes\":14,\"tx_dropped\":0}\n",
         ),
@@ -155,10 +159,14 @@ pub const SHAPED: &[Row] = &[
         ],
         "1 1 fill 14 05\n1 1 fill 9000 00\n0 1 fill 15 00\n1 1 fill 16 00\n",
         Ok(
-            "{\"port\":0,\"queue\":0,\"rx_port\":0,\"rx_queue\":0,\"tx_port\":1,\"tx_queue\":0,\"offered\":0,\"stored\":0,\"dropped\":0,\"oversize\":0,\"taken\":0,\"posted\":0,\"tx_dropped\":0,\"wire\":0,\"left\":0,\"rx_packets\":0,\"rx_bytes\":0,\"rx_dropped\":0,\"tx_packets\":0,\"tx_bytes\":0,\"ended\":\"drained\"}\n\
-             {\"port\":0,\"queue\":1,\"rx_port\":0,\"rx_queue\":1,\"tx_port\":1,\"tx_queue\":1,\"offered\":1,\"stored\":1,\"dropped\":0,\"oversize\":0,\"taken\":1,\"posted\":1,\"tx_dropped\":0,\"wire\":1,\"left\":0,\"rx_packets\":1,\"rx_bytes\":15,\"rx_dropped\":0,\"tx_packets\":1,\"tx_bytes\":15,\"ended\":\"drained\"}\n\
-             {\"port\":1,\"queue\":0,\"rx_port\":1,\"rx_queue\":0,\"tx_port\":0,\"tx_queue\":0,\"offered\":0,\"stored\":0,\"dropped\":0,\"oversize\":0,\"taken\":0,\"posted\":0,\"tx_dropped\":0,\"wire\":0,\"left\":0,\"rx_packets\":0,\"rx_bytes\":0,\"rx_dropped\":0,\"tx_packets\":0,\"tx_bytes\":0,\"ended\":\"drained\"}\n\
-             {\"port\":1,\"queue\":1,\"rx_port\":1,\"rx_queue\":1,\"tx_port\":0,\"tx_queue\":1,\"offered\":3,\"stored\":2,\"dropped\":0,\"oversize\":1,\"taken\":2,\"posted\":2,\"tx_dropped\":0,\"wire\":2,\"left\":0,\"rx_packets\":2,\"rx_bytes\":30,\"rx_dropped\":0,\"tx_packets\":2,\"tx_bytes\":30,\"ended\":\"drained\"}\n\
+            "{\"port\":0,\"queue\":0,\"rx_port\":0,\"rx_queue\":0,\"tx_port\":1,\"tx_queue\":0,\"offered\":0,\"stored\":0,\"dropped\":0,\"oversize\":0,\"taken\":0,\"posted\":0,\"tx_dropped\":0,\"wire\":0,\"left\":0,\
+             \"rx_packets\":0,\"rx_bytes\":0,\"rx_dropped\":0,\"tx_packets\":0,\"tx_bytes\":0,\"ended\":\"drained\"}\n\
+             {\"port\":0,\"queue\":1,\"rx_port\":0,\"rx_queue\":1,\"tx_port\":1,\"tx_queue\":1,\"offered\":1,\"stored\":1,\"dropped\":0,\"oversize\":0,\"taken\":1,\"posted\":1,\"tx_dropped\":0,\"wire\":1,\"left\":0,\
+             \"rx_packets\":1,\"rx_bytes\":15,\"rx_dropped\":0,\"tx_packets\":1,\"tx_bytes\":15,\"ended\":\"drained\"}\n\
+             {\"port\":1,\"queue\":0,\"rx_port\":1,\"rx_queue\":0,\"tx_port\":0,\"tx_queue\":0,\"offered\":0,\"stored\":0,\"dropped\":0,\"oversize\":0,\"taken\":0,\"posted\":0,\"tx_dropped\":0,\"wire\":0,\"left\":0,\
+             \"rx_packets\":0,\"rx_bytes\":0,\"rx_dropped\":0,\"tx_packets\":0,\"tx_bytes\":0,\"ended\":\"drained\"}\n\
+             {\"port\":1,\"queue\":1,\"rx_port\":1,\"rx_queue\":1,\"tx_port\":0,\"tx_queue\":1,\"offered\":3,\"stored\":2,\"dropped\":0,\"oversize\":1,\"taken\":2,\"posted\":2,\"tx_dropped\":0,\"wire\":2,\"left\":0,\
+             \"rx_packets\":2,\"rx_bytes\":30,\"rx_dropped\":0,\"tx_packets\":2,\"tx_bytes\":30,\"ended\":\"drained\"}\n\
              {\"port\":0,\"rx_packets\":1,\"rx_bytes\":15,\"rx_dropped\":0,\"tx_packets\":2,\"tx_bytes\":30,\"tx_dropped\":0}\n\
              {\"port\":1,\"rx_packets\":2,\"rx_bytes\":30,\"rx_dropped\":0,\"tx_packets\":1,\"tx_bytes\":15,\"tx_dropped\":0}\n",
         ),

@@ -174,8 +174,10 @@ const SKIPPING: &[Row] = &[
             "1:0=reading_mixed.pcap",
         ],
         input: &[],
-        output: "{\"port\":0,\"queue\":0,\"rx_port\":0,\"rx_queue\":0,\"tx_port\":1,\"tx_queue\":0,\"offered\":1,\"stored\":1,\"dropped\":0,\"oversize\":0,\"taken\":1,\"posted\":1,\"tx_dropped\":0,\"wire\":1,\"left\":0,\"rx_packets\":1,\"rx_bytes\":14,\"rx_dropped\":0,\"tx_packets\":1,\"tx_bytes\":14,\"ended\":\"drained\"}\n\
-         {\"port\":1,\"queue\":0,\"rx_port\":1,\"rx_queue\":0,\"tx_port\":0,\"tx_queue\":0,\"offered\":1,\"stored\":1,\"dropped\":0,\"oversize\":0,\"taken\":1,\"posted\":1,\"tx_dropped\":0,\"wire\":1,\"left\":0,\"rx_packets\":1,\"rx_bytes\":14,\"rx_dropped\":0,\"tx_packets\":1,\"tx_bytes\":14,\"ended\":\"drained\"}\n\
+        output: "{\"port\":0,\"queue\":0,\"rx_port\":0,\"rx_queue\":0,\"tx_port\":1,\"tx_queue\":0,\
+         \"offered\":1,\"stored\":1,\"dropped\":0,\"oversize\":0,\"taken\":1,\"posted\":1,\"tx_dropped\":0,\"wire\":1,\"left\":0,\"rx_packets\":1,\"rx_bytes\":14,\"rx_dropped\":0,\"tx_packets\":1,\"tx_bytes\":14,\"ended\":\"drained\"}\n\
+         {\"port\":1,\"queue\":0,\"rx_port\":1,\"rx_queue\":0,\"tx_port\":0,\"tx_queue\":0,\
+         \"offered\":1,\"stored\":1,\"dropped\":0,\"oversize\":0,\"taken\":1,\"posted\":1,\"tx_dropped\":0,\"wire\":1,\"left\":0,\"rx_packets\":1,\"rx_bytes\":14,\"rx_dropped\":0,\"tx_packets\":1,\"tx_bytes\":14,\"ended\":\"drained\"}\n\
          {\"port\":0,\"rx_packets\":1,\"rx_bytes\":14,\"rx_dropped\":0,\"tx_packets\":1,\"tx_bytes\":14,\"tx_dropped\":0}\n\
          {\"port\":1,\"rx_packets\":1,\"rx_bytes\":14,\"rx_dropped\":0,\"tx_packets\":1,\"tx_bytes\":14,\"tx_dropped\":0}\n\
          {\"capture\":1,\"truncated\":0,\"snapped\":0,\"long\":0,\"short\":0}\n\

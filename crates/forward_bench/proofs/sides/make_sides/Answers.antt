@@ -3,8 +3,8 @@ use Rattle.forwarder.proofs.Plans.{drop-first, drop-later, drop-within}
 use Rattle.forwarder.specs.Rings.{AreEnds}
 use Rattle.forward_bench.proofs.sides.make_sides.Goals as goal
 
-pub make_side-side-requires-clause-ends : goal.make_side-side-requires-clause-ends
-make_side-side-requires-clause-ends g c =
+pub make_side-driver-requires-clause-ends : goal.make_side-driver-requires-clause-ends
+make_side-driver-requires-clause-ends g c =
     let was = c.loop-own.invariant in
     let n = c.loop-own.number in
     let size = c.args.config.now.ring in
@@ -30,5 +30,5 @@ loop-own-preserved g c =
       controllers = search rules;
       room = search rules;
       pool = search rules;
-      share = omega (arith, c.make_side-side.ensures.share, was.share);
+      share = omega (arith, c.make_side-driver.ensures.share, was.share);
     }

@@ -67,6 +67,26 @@ impl Bytes {
     }
 }
 
+/// Takes buffers back from a disabled queue, at most 32, and counts them; if it is not disabled, the calling method returns
+/// `None`. For a struct with fields `ring`, `driver` and `spare`.
+#[macro_export]
+macro_rules! taken_back {
+    ($queue:expr) => {{
+        let mut count = 0_u32;
+        for _ in 0..32 {
+            if !$queue.driver.is_stopped() {
+                return None;
+            }
+            let Some(buf) = $queue.driver.reclaim(&$queue.ring) else {
+                break;
+            };
+            put_back(&mut $queue.spare, buf);
+            count = count.saturating_add(1);
+        }
+        count
+    }};
+}
+
 /// Makes the rows' steps on a queue, a struct with a field `controller`: their results, and the state of the
 /// controller's end afterwards, which `is_busy` tests.
 #[macro_export]

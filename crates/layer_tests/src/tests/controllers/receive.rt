@@ -2,7 +2,7 @@
 ghost use Rattle.std.specs.Prelude.{◌≡◌};
 
 use crate::tests::controllers::expected::{Bytes, Expected, Walked};
-use crate::walked;
+use crate::{taken_back, walked};
 use buffer_pool::Stash;
 use controller::{RxController, Tally};
 use ring_tests::{Tells, YesOrNo, asked, full_stash, put_back, renewed, told_so};
@@ -111,37 +111,15 @@ impl Receive {
         }
     }
 
-    /// Whether these numbers of frames were offered, stored, dropped and oversize.
-    fn has_counted(&self, counts: [u64; 4]) -> bool {
-        let [offered, stored, dropped, oversize] = counts;
-        let wanted = Tally {
-            offered,
-            stored,
-            dropped,
-            oversize,
-        };
-        self.controller.tally() == wanted
+    /// Makes the rows' steps.
+    pub(crate) fn walk(mut self, rows: &[(Step, Expected)]) -> Walked {
+        walked!(self, rows, is_holding)
     }
 
+    /// How many buffers came back from a disabled queue.
     fn renew(&mut self) -> Option<u32> {
-        let count = self.take_back()?;
+        let count = taken_back!(self);
         renewed!(self);
-        Some(count)
-    }
-
-    /// How many buffers come back from a disabled queue.
-    fn take_back(&mut self) -> Option<u32> {
-        let mut count = 0_u32;
-        for _ in 0..32 {
-            if !self.driver.is_stopped() {
-                return None;
-            }
-            let Some(buf) = self.driver.reclaim(&self.ring) else {
-                break;
-            };
-            put_back(&mut self.spare, buf);
-            count = count.saturating_add(1);
-        }
         Some(count)
     }
 
@@ -180,9 +158,16 @@ impl Receive {
         true
     }
 
-    /// Makes the rows' steps.
-    pub(crate) fn walk(mut self, rows: &[(Step, Expected)]) -> Walked {
-        walked!(self, rows, is_holding)
+    /// Whether these numbers of frames were offered, stored, dropped and oversize.
+    fn has_counted(&self, counts: [u64; 4]) -> bool {
+        let [offered, stored, dropped, oversize] = counts;
+        let wanted = Tally {
+            offered,
+            stored,
+            dropped,
+            oversize,
+        };
+        self.controller.tally() == wanted
     }
 }
 
@@ -193,11 +178,11 @@ impl Tells for Receive {
 
     fn make(&mut self, step: Step) -> Expected {
         match step {
+            Step::Offer(len, from) => self.offer(len, from),
+            Step::Fill => Expected::Count(self.fill()),
             Step::Enable => Expected::whether(self.enable()),
             Step::Disable => Expected::whether(self.disable()),
             Step::Renew => self.renew().map_or(Expected::False, Expected::Count),
-            Step::Fill => Expected::Count(self.fill()),
-            Step::Offer(len, from) => self.offer(len, from),
             Step::Take(from, full, last) => Expected::whether(self.take(from, full, last)),
             Step::FindsNone => Expected::whether(self.found() != Found::Segment),
             Step::IsNotDone => Expected::whether(self.found() == Found::NotDone),

@@ -8,7 +8,7 @@ ghost use Rattle.ring_tests.specs.Begun.{AreOfFrame};
 
 use crate::tests::controllers::expected::{Bytes, Expected, Walked};
 use crate::tests::controllers::growing::{len_of, send, send_seldom_growing};
-use crate::walked;
+use crate::{taken_back, walked};
 use buffer_pool::Stash;
 use controller::{CtlError, Turn, TxController, Wire};
 use limits::{LEAST_FRAME, MOST_FRAME, MOST_SEGMENTS};
@@ -76,10 +76,10 @@ pub(crate) struct Transmit {
     begun: Begun,
     ghost drives: { driver.table ≡ ring },
     ghost serves: { controller.table ≡ ring },
+    ghost of_frame: { AreOfFrame begun.paylen (unfinished carried (posted driver)) },
     ghost counts: { length (unfinished carried (posted driver)) ≡ begun.segments },
     ghost adds: { length (join carried (unfinished carried (posted driver))) ≡ begun.bytes },
     ghost few: { begun.bytes ≤ MOST_FRAME },
-    ghost of_frame: { AreOfFrame begun.paylen (unfinished carried (posted driver)) },
 }
 
 impl Transmit {
@@ -108,26 +108,10 @@ impl Transmit {
     }
 
     fn renew(&mut self) -> Option<()> {
-        if !self.take_back() {
-            return None;
-        }
+        let _count = taken_back!(self);
         renewed!(self);
         self.begun = NONE;
         Some(())
-    }
-
-    /// Whether all buffers come back from a disabled queue.
-    fn take_back(&mut self) -> bool {
-        for _ in 0..32 {
-            if !self.driver.is_stopped() {
-                return false;
-            }
-            let Some(buf) = self.driver.reclaim(&self.ring) else {
-                break;
-            };
-            put_back(&mut self.spare, buf);
-        }
-        true
     }
 
     /// Posts a frame of `len` bytes from place `from` on, in segments of `bsize` bytes and a last one, and publishes

@@ -10,6 +10,15 @@ use ring_tests::Storer;
 use rx_ring::{ControllerEnd, RxRing};
 use tx_ring::{TxControllerEnd, TxRing};
 
+/// Both controllers' sides, in one thread.
+#[derive(Drop)]
+pub(crate) struct Played {
+    pub storing: Storing,
+    pub hearing: Hearing,
+    /// The number of epochs to serve.
+    pub most: u32,
+}
+
 /// The next frame to store, and the first one of this epoch.
 #[derive(Default, Drop)]
 pub(crate) struct Coming {
@@ -147,15 +156,6 @@ impl Hearing {
             self.heard.frames = self.heard.frames.saturating_add(1);
         }
     }
-}
-
-/// Both in one thread.
-#[derive(Drop)]
-pub(crate) struct Played {
-    pub storing: Storing,
-    pub hearing: Hearing,
-    /// The number of epochs to serve.
-    pub most: u32,
 }
 
 impl ThreadSide for Played {

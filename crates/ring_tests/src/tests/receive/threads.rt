@@ -184,27 +184,6 @@ struct Ran {
     back: Back,
 }
 
-/// Runs each side of the plan in its own thread.
-fn join_both<R: Threads + Wait + Sync>(
-    rt: &R,
-    ring: &RxRing,
-    serving: Serving,
-    driving: Driving,
-    plan: Plan,
-) -> (Serving, Driving)
-    requires serves { serving.end.table ≡ ring.now }
-    requires drives { driving.end.table ≡ ring.now }
-    requires fresh { reclaimed driving.end ≡ 0 }
-    ensures serves { result.0.end.table ≡ ring.now }
-    ensures drives { result.1.end.table ≡ ring.now }
-{
-    thread::join(
-        rt,
-        || control(rt, ring, serving, plan),
-        || drive(rt, ring, driving, plan),
-    )
-}
-
 /// Lets the ends meet if the queue was disabled.
 fn meet(ring: &RxRing, serving: &mut Serving, driving: &mut Driving, plan: Plan)
     requires serves { serving.old.end.table ≡ ring.now }
@@ -245,7 +224,11 @@ fn run<R: Threads + Wait + Sync + Abort>(rt: &R, alloc: Global, plan: Plan) -> R
         held: None,
         stored: 0,
     };
-    let (mut serving, mut driving) = join_both(rt, &ring, serving, driving, plan);
+    let (mut serving, mut driving) = thread::join(
+        rt,
+        || control(rt, &ring, serving, plan),
+        || drive(rt, &ring, driving, plan),
+    );
     meet(&ring, &mut serving, &mut driving, plan);
     close_both(ring, serving, driving)
 }

@@ -110,20 +110,6 @@ fn control_epochs<R: Wait>(rt: &R, ring: &TxRing, end: &mut TxControllerEnd, epo
     sent
 }
 
-/// Fetches a buffer as soon as one is ready.
-fn fetch_when_ready<R: Wait>(rt: &R, ring: &TxRing, controller: &mut TxControllerEnd) -> Buf
-    requires { controller.old.table ≡ ring.now }
-    ensures { controller.new.table ≡ ring.now }
-{
-    for _ in rt.forever() {
-        if let Some((held, _)) = fetch(ring, controller) {
-            return held;
-        }
-        thread::yield_now();
-    }
-    unreachable!()
-}
-
 /// The controller's side of the plan. If not all frames are sent, it holds one more buffer.
 fn control<R: Wait>(rt: &R, ring: &TxRing, mut side: Serving, plan: Plan) -> Serving
     requires { side.end.table ≡ ring.now }
@@ -141,6 +127,20 @@ fn control<R: Wait>(rt: &R, ring: &TxRing, mut side: Serving, plan: Plan) -> Ser
     side
 }
 
+/// Fetches a buffer as soon as one is ready.
+fn fetch_when_ready<R: Wait>(rt: &R, ring: &TxRing, controller: &mut TxControllerEnd) -> Buf
+    requires { controller.old.table ≡ ring.now }
+    ensures { controller.new.table ≡ ring.now }
+{
+    for _ in rt.forever() {
+        if let Some((held, _)) = fetch(ring, controller) {
+            return held;
+        }
+        thread::yield_now();
+    }
+    unreachable!()
+}
+
 /// The results of both threads: the frames sent, the number not sent, the frames back with the driver, and the buffers
 /// that the closed ring returned.
 #[derive(Clone, Copy)]
@@ -151,41 +151,12 @@ struct Ran {
     closed: Back,
 }
 
-/// Runs each side of the plan in its own thread.
-fn join_both<R: Threads + Wait + Sync>(
-    rt: &R,
-    ring: &TxRing,
-    serving: Serving,
-    driving: Driving,
-    plan: Plan,
-) -> (Serving, Driving)
-    requires serves { serving.end.table ≡ ring.now }
-    requires drives { driving.end.table ≡ ring.now }
-    ensures serves { result.0.end.table ≡ ring.now }
-    ensures drives { result.1.end.table ≡ ring.now }
-{
-    thread::join(
-        rt,
-        || control(rt, ring, serving, plan),
-        || drive(rt, ring, driving, plan),
-    )
-}
-
-/// Lets the ends meet.
-fn meet(ring: &TxRing, serving: &mut Serving, driving: &mut Driving)
-    requires serves { serving.old.end.table ≡ ring.now }
-    requires drives { driving.old.end.table ≡ ring.now }
-    ensures serves { serving.new.end.table ≡ ring.now }
-    ensures drives { driving.new.end.table ≡ ring.now }
-{
-    meet_tx(ring, &mut driving.end, &mut serving.end);
-}
-
-/// Closes the ring.
-fn close_both(ring: TxRing, serving: Serving, driving: Driving) -> Ran
+/// Lets the ends meet, and closes the ring.
+fn close_both(ring: TxRing, mut serving: Serving, mut driving: Driving) -> Ran
     requires serves { serving.end.table ≡ ring }
     requires drives { driving.end.table ≡ ring }
 {
+    meet_tx(&ring, &mut driving.end, &mut serving.end);
     let (sent, left, back) = (serving.sent, driving.left, driving.back);
     let slots = close(ring, driving.end, serving.end);
     Ran {
@@ -217,8 +188,11 @@ fn run<R: Threads + Wait + Sync + Abort>(
         held: None,
         sent: Passed::NONE,
     };
-    let (mut serving, mut driving) = join_both(rt, &ring, serving, driving, plan);
-    meet(&ring, &mut serving, &mut driving);
+    let (serving, driving) = thread::join(
+        rt,
+        || control(rt, &ring, serving, plan),
+        || drive(rt, &ring, driving, plan),
+    );
     close_both(ring, serving, driving)
 }
 

@@ -20,11 +20,11 @@ pub(crate) struct Both {
     ring: RxRing,
     driver: RxDriver,
     storer: Storer,
+    /// The packets that were taken.
+    packets: ArrayVec<Packet, MOST_BATCH>,
     /// The buffers at hand, and others that can replace them.
     stash: Stash,
     others: Stash,
-    /// The packets that were taken.
-    packets: ArrayVec<Packet, MOST_BATCH>,
     ghost drives: { driver.end.table ≡ ring },
     ghost serves: { storer.controller.table ≡ ring },
 }

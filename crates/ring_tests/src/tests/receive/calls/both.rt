@@ -9,7 +9,7 @@ ghost use Rattle.ring_tests.specs.Holding.{held_as};
 
 use crate::tests::steps::rx_step;
 use crate::{
-    BUFFERS, Beside, Closed, Random, control_step, filled, full_stash, is_filled, put_back,
+    BUFFERS, Beside, Closed, Random, control_step, filled, full_stash, is_filled, looked, put_back,
     random_control, renewed,
 };
 use buffer_pool::{Buf, Stash};
@@ -193,14 +193,6 @@ impl Both {
         Some(Note::Tail(0))
     }
 
-    fn look(&mut self) -> Option<Note> {
-        if !self.controller.is_serving() {
-            return None;
-        }
-        let free = self.controller.look(&self.ring);
-        u16::try_from(free).ok().map(Note::Free)
-    }
-
     fn set_head(&mut self) -> Option<Note> {
         if !self.controller.is_serving() || self.controller.is_holding() {
             return None;
@@ -216,19 +208,19 @@ impl Both {
         is_off
     }
 
-    fn machine_renews(&mut self) -> Option<Note> {
-        let note = self.machine.step(RxStep::ClearHead).ok()?;
-        self.machine.step(RxStep::ClearTail).ok()?;
-        self.machine.step(RxStep::ClearQuiet).ok()?;
-        Some(note)
-    }
-
     fn renew(&mut self) -> Option<Note> {
         renewed!(self);
         self.untouched = true;
         self.stored_count = 0;
         self.taken_count = 0;
         Some(Note::Head(0))
+    }
+
+    fn machine_renews(&mut self) -> Option<Note> {
+        let note = self.machine.step(RxStep::ClearHead).ok()?;
+        self.machine.step(RxStep::ClearTail).ok()?;
+        self.machine.step(RxStep::ClearQuiet).ok()?;
+        Some(note)
     }
 }
 
@@ -246,7 +238,7 @@ impl Beside for Both {
         match step {
             RxStep::Post(_) => self.post(),
             RxStep::Publish => self.publish(),
-            RxStep::Look => self.look(),
+            RxStep::Look => looked!(self, Note::Free),
             RxStep::Fetch => self.fetch(),
             RxStep::Store(len, eop) => self.store(len, eop),
             RxStep::Take => self.take(),
@@ -289,6 +281,11 @@ impl Beside for Both {
         }
     }
 
+    fn close(self) -> Closed {
+        let slots = close(self.ring, self.driver, self.controller);
+        Closed::of(slots, self.spare, self.held)
+    }
+
     fn control(step: ControlStep) -> Step {
         RxStep::Control(step)
     }
@@ -304,11 +301,6 @@ impl Beside for Both {
             _ => RxStep::Control(random_control(random)),
         }
     }
-
-    fn close(self) -> Closed {
-        let slots = close(self.ring, self.driver, self.controller);
-        Closed::of(slots, self.spare, self.held)
-    }
 }
 
 /// The step for a random number below 51, other than a store.
@@ -319,9 +311,9 @@ fn step_at(at: u64) -> Step {
         11..=14 => RxStep::Look,
         15..=19 => RxStep::Fetch,
         20..=29 => RxStep::Take,
-        30..=34 => RxStep::Head,
-        35 => RxStep::StoreQuiet,
-        36 => RxStep::LoadQuiet,
+        30 => RxStep::LoadQuiet,
+        31..=35 => RxStep::Head,
+        36 => RxStep::StoreQuiet,
         37..=44 => RxStep::Reclaim,
         45..=48 => RxStep::ClearHead,
         49 => RxStep::ClearTail,

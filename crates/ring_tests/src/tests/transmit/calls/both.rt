@@ -10,7 +10,7 @@ ghost use Rattle.ring_tests.specs.Begun.{AreOfFrame};
 
 use crate::tests::steps::{TxNamed, tx_step};
 use crate::{
-    BUFFERS, Beside, Closed, Random, control_step, filled, full_stash, is_filled, put_back,
+    BUFFERS, Beside, Closed, Random, control_step, filled, full_stash, is_filled, looked, put_back,
     random_control, renewed,
 };
 use buffer_pool::{Buf, Stash};
@@ -161,14 +161,6 @@ impl Both {
         }
         self.driver.publish(&self.ring);
         Some(Note::Tail(0))
-    }
-
-    fn look(&mut self) -> Option<Note> {
-        if !self.controller.is_serving() {
-            return None;
-        }
-        let ready = self.controller.look(&self.ring);
-        u16::try_from(ready).ok().map(Note::Ready)
     }
 
     fn fetch(&mut self) -> Option<Note> {
@@ -324,7 +316,7 @@ impl Beside for Both {
         match step {
             TxStep::Post(posted) => self.post(posted),
             TxStep::Publish => self.publish(),
-            TxStep::Look => self.look(),
+            TxStep::Look => looked!(self, Note::Ready),
             TxStep::Fetch => self.fetch(),
             TxStep::Send => self.send(),
             TxStep::Report => self.report(),
