@@ -37,7 +37,7 @@
  * - a handle is in one call at a time. The two ends of a ring may be in calls of two threads at the same time;
  * - a handle may go to another thread between two calls, if a lock, the start or join of a thread, or a sequentially consistent
  *   atomic orders the two calls;
- * - a ..._new call is given empty handles; a ..._close call is given the two ends of one ring, which no other thread uses any more;
+ * - a ..._new call is given different handles; a ..._close call the two ends of one ring, which no other thread uses any more;
  * - a pointer to bytes has at least as many bytes as its length argument says. No pointer is null, unless a comment allows it. */
 #ifndef POLL82599_H
 #define POLL82599_H
@@ -71,7 +71,8 @@ enum poll82599_made {
     POLL82599_MADE_NO_LENGTH = 1,   /* the length is not a power of two from 8 to 4,096 */
     POLL82599_MADE_NO_MEMORY = 2,
     POLL82599_MADE_NO_BUFFERS = 3,  /* the number of buffers is not 16 to 256 */
-    POLL82599_MADE_NO_SETTING = 4   /* another argument is out of range */
+    POLL82599_MADE_NO_SETTING = 4,  /* another argument is out of range */
+    POLL82599_MADE_IN_USE = 5       /* a handle is not empty */
 };
 
 /* The results of the other calls on handles. A number has one meaning in a call; several calls share a number. */
@@ -79,7 +80,7 @@ enum poll82599_result {
     POLL82599_NOT_NOW = 0,      /* not now, or nothing to do; of ..._offer: too few descriptors are free, and the frame is held */
     POLL82599_DONE = 1,
     POLL82599_EMPTY = 2,        /* rx_poll: nothing is posted */
-    POLL82599_UNFIT = 2,        /* rx_store.., tx_post.., offer, packets_put: this length, or it cannot follow the frame so far */
+    POLL82599_UNFIT = 2,        /* rx_store.., tx_post.., offer, packets_put, packets_append: this length, or it cannot follow the frame so far */
     POLL82599_NOT_DISABLED = 2, /* untaken, unsent, ..reclaim: no disabling was seen answered */
     POLL82599_NOT_RENEWED = 2,  /* ..queue_enable: a disabling was seen answered, so renew first */
     POLL82599_STASH_FULL = 2,   /* packet_free: the worker would have too many empty buffers */
@@ -148,8 +149,8 @@ void poll82599_rx_serve(struct poll82599_rx_controller *controller, struct poll8
 int64_t poll82599_rx_close(struct poll82599_rx_driver *driver, struct poll82599_rx_controller *controller);
 
 /* poll82599_rx_new makes a receive ring of `descriptors` descriptors: its driver, which has `buffers` empty buffers, and its controller.
- * The ring is off. Returns 0: done; 1: the length is not a power of two from 8 to 4,096; 2: no memory; 3: `buffers` is not 16 to 256.
- * Only 0 changes the handles.
+ * The ring is off. Returns 0: done; 1: the length is not a power of two from 8 to 4,096; 2: no memory; 3: `buffers` is not 16 to 256;
+ * 5: a handle is not empty. Only 0 changes the handles.
  *
  * poll82599_rx_close frees the ring and all its buffers. Returns how many buffers were in the ring, or -1 if it has another owner left;
  * both handles are then empty. Returns POLL82599_NOT_CLOSED if a handle is empty or of another kind; the handles then keep
@@ -464,6 +465,8 @@ enum poll82599_tx_device_operation { POLL82599_TX_DEVICE_TURN = 0, POLL82599_TX_
 /* The exported functions. Each takes the number of an operation; below is an inline function for each operation. */
 int32_t poll82599_packets_new(uint32_t buffers, struct poll82599_packets *packets);
 uint32_t poll82599_packets_put(struct poll82599_packets *packets, const uint8_t *frame, size_t len);
+uint32_t poll82599_packets_append(struct poll82599_packets *packets, const uint8_t *bytes, size_t len);
+uint32_t poll82599_packet_move(struct poll82599_packets *packets, size_t packet, struct poll82599_packets *other);
 void poll82599_packets_do(struct poll82599_packets *packets, struct poll82599_packet *call, uint8_t *bytes, size_t room);
 size_t poll82599_packets_close(struct poll82599_packets *packets);
 int32_t poll82599_rx_queue_new(uint32_t descriptors, size_t batch, size_t fill, uint32_t drop_en, struct poll82599_rx_queue *queue, struct poll82599_rx_device *device);
@@ -478,15 +481,15 @@ void poll82599_tx_device_do(struct poll82599_tx_device *device, struct poll82599
 int64_t poll82599_tx_queue_close(struct poll82599_tx_queue *queue, struct poll82599_tx_device *device);
 
 /* poll82599_packets_new makes a worker's packets: no packet, and `buffers` empty buffers. Returns 0: done; 2: no memory; 3: `buffers` is
- * not 16 to 256. poll82599_packets_close frees them all and returns how many packets there were.
+ * not 16 to 256; 5: the handle is not empty. poll82599_packets_close frees them all and returns how many packets there were.
  *
  * poll82599_rx_queue_new makes a receive queue of `descriptors` descriptors. Its driver takes up to `batch` packets at once, 1 to 32.
  * Its device fills buffers to `fill` bytes, 1,024 or 2,048. When too few descriptors are free the device drops a frame if `drop_en` is
  * not 0, and else holds it (SRRCTL.Drop_En). The queue is off. Returns 0: done; 1: the length is not a power of two from 8 to 4,096; 2: no
- * memory; 4: `batch` or `fill` is another number.
+ * memory; 4: `batch` or `fill` is another number; 5: a handle is not empty.
  *
  * poll82599_tx_queue_new makes a transmit queue, whose driver asks for a report with each `every`th frame, 1 to 4,096, and with the last
- * of a batch. It reports as poll82599_tx_new says. The queue is off. Returns 0, 1 and 2 as above; 4: `every` is another number.
+ * of a batch. It reports as poll82599_tx_new says. The queue is off. Returns 0, 1, 2 and 5 as above; 4: `every` is another number.
  *
  * poll82599_rx_queue_close and poll82599_tx_queue_close close a queue and its device, and return what poll82599_rx_close returns. The
  * buffers that lie in the ring are freed; take them back before with ..._queue_reclaim. */
@@ -494,7 +497,14 @@ int64_t poll82599_tx_queue_close(struct poll82599_tx_queue *queue, struct poll82
 /* ---- A worker's packets.
  *
  * poll82599_packets_put makes a packet of a frame of 14 to 15,000 bytes, behind the others. The bytes are copied. Returns 1: done; 0:
- * there are 32 packets, or too few empty buffers; 2: the length is another. */
+ * there are 32 packets, or too few empty buffers; 2: the length is another.
+ *
+ * poll82599_packets_append appends a segment of 1 to 2,048 bytes to the last packet, in a buffer of its own. So a packet is built from
+ * pieces, of which the first has at least 14 bytes. Returns 1: done; 0: there is no packet, or no empty buffer; 2: the length is another,
+ * or the packet would have more than 15 segments or 15,000 bytes.
+ *
+ * poll82599_packet_move moves a packet, with its buffers, behind the packets of another worker, and the packets behind it move up.
+ * So a thread sorts packets by the queue that is to send them. Returns 1: done; 0: there is no such packet, or `other` has 32 packets. */
 
 static inline uint32_t poll82599_packets_step(struct poll82599_packets *packets, struct poll82599_packet *call)
 {

@@ -81,6 +81,8 @@ def _loaded():
         "tx_close": (c_int64, handle, handle),
         "packets_new": (c_int32, c_uint32, handle),
         "packets_put": (c_uint32, handle, read, size),
+        "packets_append": (c_uint32, handle, read, size),
+        "packet_move": (c_uint32, handle, size, handle),
         "packets_do": (None, handle, POINTER(_Packet), write, size),
         "packets_close": (size, handle),
         "rx_queue_new": (c_int32, c_uint32, size, size, c_uint32, handle, handle),
@@ -107,7 +109,7 @@ def _loaded():
 
 _calls = _loaded()
 _made = {1: "the number of descriptors is not a power of two from 8 to 4,096", 2: "memory", 3: "the number of buffers is not 16 to 256",
-         4: "a setting is out of range"}
+         4: "a setting is out of range", 5: "a handle is in use"}
 
 
 def _done(answer, **refusals):
@@ -288,6 +290,11 @@ class Packets:
         frame = bytes(frame)
         return _done(_calls["packets_put"](byref(self._handle), frame, len(frame)), _2="unfit")
 
+    def append(self, piece):
+        """Appends a segment of 1 to 2,048 bytes to the last packet."""
+        piece = bytes(piece)
+        return _done(_calls["packets_append"](byref(self._handle), piece, len(piece)), _2="unfit")
+
     def copy(self, packet):
         """The bytes of a packet, or None if there is no such packet."""
         room = _room(MOST_FRAME)
@@ -299,6 +306,10 @@ class Packets:
 
     def free(self, packet):
         return _done(self._call(_Packet(operation=3, packet=packet)).answer, _2="stash full")
+
+    def move(self, packet, other):
+        """Moves a packet, with its buffers, behind the packets of another worker."""
+        return _done(_calls["packet_move"](byref(self._handle), packet, byref(other._handle)))
 
     def _call(self, call, room=None):
         room = room or _room(0)

@@ -108,6 +108,15 @@ class Batches(unittest.TestCase):
         self.assertEqual(sent, [b"\7" + frame(k)[1:] for k in range(200)])
         self.assertEqual(rx_device.counts(), {"offered": 200, "stored": 200, "dropped": 0, "oversize": 0})
 
+    def test_packets_move_to_another_worker(self):
+        packets, others = Packets(16), Packets(16)
+        self.assertFalse(packets.append(b"x"))
+        self.assertTrue(packets.put(frame(1)[:20]) and packets.append(frame(1)[20:]) and packets.put(frame(2)))
+        self.assertEqual((packets.move(2, others), packets.move(0, others)), (False, True))
+        self.assertEqual((len(packets), packets.copy(0), others.copy(0)), (1, frame(2), frame(1)))
+        self.assertEqual(refusal(packets.append, b""), "unfit")
+        self.assertEqual((packets.empty_buffers(), others.empty_buffers()), (13, 16))
+
     def test_refusals_have_reasons(self):
         queue, device = RxQueue(8)
         packets = Packets(16)

@@ -52,16 +52,64 @@ static void make(void)
 {
     expect("make packets of 15 buffers", poll82599_packets_new(15, &packets), 3);
     expect("make packets of 16 buffers", poll82599_packets_new(16, &packets), 0);
+    expect("make packets in a handle in use", poll82599_packets_new(32, &packets), 5);
+    expect("number of packets", (long long)poll82599_packets_count(&packets, &empty), 0);
+    expect("empty buffers", (long long)empty, 16);
     expect("make a receive queue of 7 descriptors", poll82599_rx_queue_new(7, 32, 1024, 0, &rx, &rx_device), 1);
     expect("make a receive queue with batches of 33", poll82599_rx_queue_new(8, 33, 1024, 0, &rx, &rx_device), 4);
     expect("make a receive queue with buffers filled to 512 bytes", poll82599_rx_queue_new(8, 32, 512, 0, &rx, &rx_device), 4);
     expect("make a receive queue of 8 descriptors", poll82599_rx_queue_new(8, 2, 1024, 0, &rx, &rx_device), 0);
+    expect("make a receive queue in handles in use", poll82599_rx_queue_new(64, 2, 1024, 0, &rx, &rx_device), 5);
     expect("make a transmit queue without reports", poll82599_tx_queue_new(8, 0, 0, &tx, &tx_device), 4);
+    expect("make a transmit queue beside a handle in use", poll82599_tx_queue_new(8, 32, 1, &tx, (struct poll82599_tx_device *)&rx_device), 5);
     expect("make a transmit queue of 8 descriptors", poll82599_tx_queue_new(8, 32, 1, &tx, &tx_device), 0);
+}
+
+/* Packets 0 and 1 go to another worker, and come back in the other order and then in this one. */
+static void sort_packets(void)
+{
+    static struct poll82599_packets others;
+    expect("move a packet to empty packets", poll82599_packet_move(&packets, 0, &others), POLL82599_NO_END);
+    expect("make packets of another worker", poll82599_packets_new(16, &others), 0);
+    expect("move packet 2", poll82599_packet_move(&packets, 2, &others), 0);
+    expect("move packet 0", poll82599_packet_move(&packets, 0, &others), 1);
+    expect("move packet 0, which was packet 1", poll82599_packet_move(&packets, 0, &others), 1);
+    expect("number of packets left", (long long)poll82599_packets_count(&packets, NULL), 0);
+    expect("number of packets moved", (long long)poll82599_packets_count(&others, &empty), 2);
+    expect("empty buffers of the other worker", (long long)empty, 16);
+    expect("move packet 0 back", poll82599_packet_move(&others, 0, &packets), 1);
+    expect("move packet 0 back, which was packet 1", poll82599_packet_move(&others, 0, &packets), 1);
+    expect("copy packet 1", poll82599_packet_copy(&packets, 1, got, sizeof got, &len), 1);
+    expect("bytes copied", (long long)len, 60);
+    expect("close the other worker's packets", (long long)poll82599_packets_close(&others), 0);
+}
+
+/* A packet of 15 segments, built from pieces of 1,000 bytes. */
+static void build_a_packet(void)
+{
+    static struct poll82599_packets pieces;
+    expect("make packets of 16 buffers", poll82599_packets_new(16, &pieces), 0);
+    expect("append to no packet", poll82599_packets_append(&pieces, frame, 1), 0);
+    expect("put the first 1,000 bytes", poll82599_packets_put(&pieces, frame, 1000), 1);
+    expect("append no byte", poll82599_packets_append(&pieces, frame, 0), 2);
+    expect("append 2,049 bytes", poll82599_packets_append(&pieces, frame, 2049), 2);
+    for (size_t at = 1000; at < 14000; at += 1000)
+        wrong += poll82599_packets_append(&pieces, frame + at, 1000) != 1;
+    expect("append 1,001 bytes to 14,000", poll82599_packets_append(&pieces, frame, 1001), 2);
+    expect("append the last 1,000 bytes", poll82599_packets_append(&pieces, frame + 14000, 1000), 1);
+    expect("append a byte to 15,000", poll82599_packets_append(&pieces, frame, 1), 2);
+    expect("copy what was built", poll82599_packet_copy(&pieces, 0, got, sizeof got, &len), 1);
+    expect("bytes copied", (long long)len, 15000);
+    expect("the bytes differ", memcmp(got, frame, 15000) != 0, 0);
+    expect("put a packet into the last buffer", poll82599_packets_put(&pieces, frame, 60), 1);
+    expect("append without a buffer", poll82599_packets_append(&pieces, frame, 60), 0);
+    expect("close these packets", (long long)poll82599_packets_close(&pieces), 2);
+    expect("append to empty packets", poll82599_packets_append(&pieces, frame, 60), POLL82599_NO_END);
 }
 
 static void hold_packets(void)
 {
+    build_a_packet();
     expect("put a packet of 13 bytes", poll82599_packets_put(&packets, frame, 13), 2);
     expect("put a packet of 15,001 bytes", poll82599_packets_put(&packets, frame, sizeof frame), 2);
     expect("put a packet of 5,000 bytes", poll82599_packets_put(&packets, frame, 5000), 1);
@@ -80,6 +128,7 @@ static void hold_packets(void)
     expect("copy packet 1", poll82599_packet_copy(&packets, 1, got, sizeof got, &len), 0);
     expect("free packet 1", poll82599_packet_free(&packets, 1), 0);
     expect("put a packet of 60 bytes", poll82599_packets_put(&packets, frame, 60), 1);
+    sort_packets();
     expect("free packet 1", poll82599_packet_free(&packets, 1), 1);
     expect("empty buffers", (long long)(poll82599_packets_count(&packets, &empty), empty), 13);
 }

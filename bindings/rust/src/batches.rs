@@ -120,6 +120,16 @@ impl Packets {
         }
     }
 
+    /// Appends a segment of 1 to 2,048 bytes to the last packet. Returns false if there is no packet or no empty buffer, and
+    /// `Unfit` for another length or if the packet would have more than 15 segments or 15,000 bytes.
+    pub fn append(&mut self, bytes: &[u8]) -> Result<bool, Refusal> {
+        // SAFETY: the handle is full, only this call uses it, and the bytes have their length.
+        match unsafe { ffi::poll82599_packets_append(self.handle.get(), bytes.as_ptr(), bytes.len()) } {
+            2 => Err(Refusal::Unfit),
+            answer => Ok(is_done(answer)),
+        }
+    }
+
     /// How many packets there are.
     pub fn len(&self) -> usize {
         self.counted().0
@@ -167,6 +177,13 @@ impl Packets {
             2 => Err(Refusal::StashFull),
             answer => Ok(is_done(answer)),
         }
+    }
+
+    /// Moves a packet, with its buffers, behind the packets of another worker; later packets move up. Returns false if there is
+    /// no such packet, or the other worker has 32 packets.
+    pub fn move_to(&mut self, packet: usize, other: &mut Packets) -> bool {
+        // SAFETY: both handles are full, and only this call uses them.
+        is_done(unsafe { ffi::poll82599_packet_move(self.handle.get(), packet, other.handle.get()) })
     }
 
     /// The numbers of packets and of empty buffers.

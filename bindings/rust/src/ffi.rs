@@ -107,6 +107,8 @@ unsafe extern "C" {
     pub fn poll82599_tx_close(driver: *mut Handle, controller: *mut Handle) -> i64;
     pub fn poll82599_packets_new(buffers: u32, packets: *mut Handle) -> i32;
     pub fn poll82599_packets_put(packets: *mut Handle, frame: *const u8, len: usize) -> u32;
+    pub fn poll82599_packets_append(packets: *mut Handle, bytes: *const u8, len: usize) -> u32;
+    pub fn poll82599_packet_move(packets: *mut Handle, packet: usize, other: *mut Handle) -> u32;
     pub fn poll82599_packets_do(packets: *mut Handle, call: *mut Packet, bytes: *mut u8, room: usize);
     pub fn poll82599_packets_close(packets: *mut Handle) -> usize;
     pub fn poll82599_rx_queue_new(

@@ -160,6 +160,20 @@ fn packets_are_copied_and_freed() {
 }
 
 #[test]
+fn packets_are_built_from_pieces_and_move_to_another_worker() {
+    let (mut packets, mut others) = (Packets::new(16).expect("memory"), Packets::new(16).expect("memory"));
+    assert_eq!(packets.append(&[1]), Ok(false));
+    assert_eq!(packets.put(&[1; 14]), Ok(true));
+    assert_eq!(packets.append(&[2; 2048]), Ok(true));
+    assert_eq!((packets.append(&[]), packets.append(&[0; 2049])), (Err(Refusal::Unfit), Err(Refusal::Unfit)));
+    assert_eq!((packets.move_to(1, &mut others), packets.move_to(0, &mut others)), (false, true));
+    let mut room = [0; 3000];
+    let built = others.copy(0, &mut room).expect("room").expect("a packet");
+    assert_eq!((built.len(), built[13], built[14], packets.len()), (2062, 1, 2, 0));
+    assert_eq!((packets.empty_buffers(), others.empty_buffers()), (14, 16));
+}
+
+#[test]
 fn what_cannot_be_made_is_refused() {
     assert_eq!(RxRing::new(7, 16).err(), Some(MakeError::Length));
     assert_eq!(TxRing::new(8, 257, Completion::Descriptors).err(), Some(MakeError::Buffers));

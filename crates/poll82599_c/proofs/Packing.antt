@@ -4,8 +4,8 @@ use Rattle.std.specs.Prelude.{All}
 use Rattle.std.proofs.lemmas.List.{map-append, length-map, take-append-drop}
 use Rattle.std.proofs.lemmas.List.Elements.{All-append, All-cons, All-nil}
 use Rattle.buffer_pool.specs.Buffer.{Buffer, buffer}
-use Rattle.buffer_pool.specs.Packed.{bytes_of}
-use Rattle.limits.specs.declared.profile.TheConstants.{BUFFER_BYTES, MOST_SEGMENTS}
+use Rattle.buffer_pool.specs.Packed.{IsPacket, bytes_of}
+use Rattle.limits.specs.declared.profile.TheConstants.{BUFFER_BYTES, MOST_FRAME, MOST_SEGMENTS}
 use Rattle.ring_model.specs.shared.Frames.{HasFrameLength}
 use Rattle.poll82599_c.specs.batches.Packets.{Packed, Pushed, numbers_of}
 
@@ -79,3 +79,19 @@ module _ (frame had : List ℕ) (lawful : HasFrameLength frame) where
 
 pub split_is : (n : ℕ) (rest front back : List ℕ) → front ≡ take n rest → back ≡ drop n rest → rest ≡ front ++ back
 split_is n rest front back f b = sym (take-append-drop n rest) ∙ (ap (λ l. l ++ drop n rest) (sym f) ∙ ap (λ l. front ++ l) (sym b))
+
+-- a packet with one more buffer is one, if it is not too long
+pub packet_grown : (bytes : List ℕ) (packet : List Buffer) (had : List ℕ) (packet' : List Buffer) (has : List ℕ) → Pushed bytes packet had packet' has
+    → 0 < length bytes → length packet < MOST_SEGMENTS → length (bytes_of packet) + length bytes ≤ MOST_FRAME → IsPacket packet → IsPacket packet'
+packet_grown bytes packet had packet' has p some few short h =
+    let count : length packet' ≡ length packet + 1 = ap length p.behind ∙ length-append packet (buffer p.number bytes ∷ []) in
+    let sum : length (bytes_of packet') ≡ length (bytes_of packet) + length bytes =
+    ap length (ap bytes_of p.behind ∙ bytes_of-push packet (buffer p.number bytes)) ∙ length-append (bytes_of packet) bytes in
+    record {
+      some_segment = omega (arith, count);
+      few_segments = omega (arith, count, few);
+      none_empty = subst (All (λ b. 0 < length b.bytes)) (sym p.behind) (All-append (λ b. 0 < length b.bytes) packet (buffer p.number bytes ∷ []) h.none_empty
+          (All-cons (λ b. 0 < length b.bytes) (buffer p.number bytes) [] some (All-nil (λ b. 0 < length b.bytes))));
+      some_bytes = (let l = h.some_bytes in omega (arith, sum, l));
+      few_bytes = omega (arith, sum, short);
+    }

@@ -10,7 +10,7 @@ use Rattle.buffer_pool.proofs.Shaped.{packet-shaped}
 use Rattle.poll82599_c.specs.batches.Packets.{SetIn}
 
 -- what stands in a list of packets is one
-packet-there : (ps : List (List Buffer)) (i : ℕ) (p : List Buffer) → slice_get ps i ≡ Some p → All IsPacket ps → IsPacket p
+pub packet-there : (ps : List (List Buffer)) (i : ℕ) (p : List Buffer) → slice_get ps i ≡ Some p → All IsPacket ps → IsPacket p
 packet-there [] i p e h = cc e
 packet-there (q ∷ ps) zero p e h = subst IsPacket (cc e) (All-head IsPacket q ps h)
 packet-there (q ∷ ps) (suc i) p e h = packet-there ps i p e (All-tail IsPacket q ps h)

@@ -1,5 +1,5 @@
 //! The handle by which a program owns an end or a worker's packets: one pointer.
-ghost use Rattle.std.specs.Prelude.{◌≡◌, ◌⊎◌, Option, Some, None, IfNone, IfSome, MatchOption};
+ghost use Rattle.std.specs.Prelude.{◌≡◌, ◌≢◌, ◌⊎◌, true, false, Option, Some, None, IfNone, IfSome, MatchOption};
 ghost use Rattle.poll82599_c.specs.declared.end.End.{End as Held};
 
 use crate::end::End;
@@ -69,6 +69,21 @@ impl Handle {
         match replace(self, Handle::empty(alloc)).into_parts() {
             None => None,
             Some(parts) => Some(parts.into_box()),
+        }
+    }
+
+    /// Whether the handle holds no object.
+    pub(crate) fn is_empty(&mut self, alloc: Global) -> bool
+        ensures empty { result ≡ true → self.old.held ≡ None }
+        ensures in_use { result ≡ false → self.old.held ≢ None }
+        ensures kept { self.new.held ≡ self.old.held }
+    {
+        match self.take(alloc) {
+            None => true,
+            Some(object) => {
+                self.put(object);
+                false
+            }
         }
     }
 

@@ -11,7 +11,7 @@ mod unmade;
 
 pub(crate) use ends::{rx_ends, tx_ends};
 pub(crate) use halves::{completion_of, rx_halves, tx_halves};
-pub(crate) use handing::put_both;
+pub(crate) use handing::{put_both, put_one};
 pub(crate) use owners::{both_boxed, boxed, lying, sole, unclosed};
 pub(crate) use queues::{rx_queue, tx_queue};
 pub(crate) use stash::stash_of;

@@ -3,8 +3,7 @@ use Rattle.std.specs.Prelude.{◌≡◌, ℕ, zero, suc, ◌+◌, ◌*◌, ◌<�
 use Rattle.buffer_pool.specs.Buffer.{Buffer, buffer}
 use Rattle.buffer_pool.specs.Packed.{IsPacket, bytes_of, shape_of}
 use Rattle.buffer_pool.specs.declared.stash.TheConstants.{STASH_BUFFERS}
-use Rattle.limits.specs.declared.profile.TheConstants.{MOST_BATCH}
-use Rattle.limits.specs.declared.profile.TheConstants.{BUFFER_BYTES}
+use Rattle.limits.specs.declared.profile.TheConstants.{BUFFER_BYTES, MOST_BATCH, MOST_FRAME, MOST_SEGMENTS}
 use Rattle.ring_model.specs.shared.Frames.{Bytes, HasFrameLength}
 use Rattle.poll82599_c.specs.Stashes.{AreBuffers}
 use Rattle.poll82599_c.specs.declared.call.Poll82599Packet.{Poll82599Packet}
@@ -55,6 +54,30 @@ pub record PutFrame (frame : Bytes) (old new : Worked) : Type 0 where
 -- there are as many packets as there may be, or too few empty buffers for the frame
 abbrev pub HasNoPlace : Bytes → Worked → Type 0
 HasNoPlace frame w = (length w.packets ≡ MOST_BATCH) ⊎ (BUFFER_BYTES * length w.stash < length frame)
+
+-- the packet cannot grow by these bytes in one more buffer
+abbrev pub CannotGrow : Bytes → List Buffer → Type 0
+CannotGrow bytes packet = (bytes ≡ []) ⊎ ((BUFFER_BYTES < length bytes) ⊎ ((length packet ≡ MOST_SEGMENTS) ⊎ (MOST_FRAME < length (bytes_of packet) + length bytes)))
+
+-- 1: the packet has one more buffer; 0: the stash is empty; 2: it cannot grow so
+abbrev pub TriedExtend : ℕ → Bytes → List Buffer → List ℕ → List Buffer → List ℕ → Type 0
+TriedExtend zero bytes old had new has = (had ≡ []) × (new ≡ old) × (has ≡ had)
+TriedExtend (suc zero) bytes old had new has = Pushed bytes old had new has
+TriedExtend (suc (suc zero)) bytes old had new has = CannotGrow bytes old × (new ≡ old) × (has ≡ had)
+TriedExtend _ bytes old had new has = ⊥
+
+-- so it went with the last packet
+pub record Appended (answer : ℕ) (bytes : Bytes) (old new : Worked) : Type 0 where
+  pub before : List (List Buffer)
+  pub packet : List Buffer
+  pub longer : List Buffer
+  pub was : old.packets ≡ before ++ packet ∷ []
+  pub is : new.packets ≡ before ++ longer ∷ []
+  pub grew : TriedExtend answer bytes packet old.stash longer new.stash
+
+-- there is no packet, or so it went
+abbrev pub TriedAppend : ℕ → Bytes → Worked → Worked → Type 0
+TriedAppend answer bytes old new = ((answer ≡ 0) × (old.packets ≡ []) × (new ≡ old)) ⊎ Appended answer bytes old new
 
 -- the packet at this place
 abbrev pub IsAt : Worked → ℕ → List Buffer → Type 0
@@ -112,6 +135,14 @@ pub record Released (i : ℕ) (old new : Worked) : Type 0 where
   pub list : new.packets ≡ remove old.packets i
   pub stash : new.stash ≡ reverse (numbers_of packet) ++ old.stash
 
+-- the packet is removed, and is the last of another worker
+pub record MovedPacket (i : ℕ) (from to from' to' : Worked) : Type 0 where
+  pub packet : List Buffer
+  pub there : IsAt from i packet
+  pub list : from'.packets ≡ remove from.packets i
+  pub behind : to'.packets ≡ to.packets ++ packet ∷ []
+  pub stashes : (from'.stash ≡ from.stash) × (to'.stash ≡ to.stash)
+
 -- the packet at this place has more buffers than the stash has room for
 pub record IsCrowded (i : ℕ) (w : Worked) : Type 0 where
   pub packet : List Buffer
@@ -158,6 +189,12 @@ TriedRelease zero i old new = IsAbsent i old × (new ≡ old)
 TriedRelease (suc zero) i old new = Released i old new
 TriedRelease (suc (suc zero)) i old new = IsCrowded i old × (new ≡ old)
 TriedRelease _ i old new = ⊥
+
+-- 1: the packet was moved; 0: there is none, or the other worker has as many as there may be
+abbrev pub TriedMove : ℕ → ℕ → Worked → Worked → Worked → Worked → Type 0
+TriedMove zero i from to from' to' = (IsAbsent i from ⊎ (length to.packets ≡ MOST_BATCH)) × (from' ≡ from) × (to' ≡ to)
+TriedMove (suc zero) i from to from' to' = MovedPacket i from to from' to'
+TriedMove _ i from to from' to' = ⊥
 
 -- 1: these were counted
 abbrev pub TriedCount : ℕ → ℕ → ℕ → Worked → Worked → Type 0

@@ -1,10 +1,11 @@
 //! A worker's buffers: its empty ones, and its packets.
 ghost use Rattle.std.specs.Prelude.{◌≡◌, ◌+◌, ◌*◌, ◌<◌, ◌≤◌, ◌++◌, ◌⊎◌, true, false, [], length, reverse, Some, IfErr, IfOk};
 ghost use Rattle.poll82599_c.specs.Handles.{as_packets};
+ghost use Rattle.buffer_pool.specs.Packed.{IsPacket};
 ghost use Rattle.buffer_pool.specs.declared.stash.TheConstants.{STASH_BUFFERS};
 ghost use Rattle.limits.specs.declared.profile.TheConstants.{BUFFER_BYTES, MOST_SEGMENTS};
 ghost use Rattle.ring_model.specs.shared.Frames.{HasFrameLength};
-ghost use Rattle.poll82599_c.specs.batches.Packets.{HasNoByte, IsMade, Packed, Pushed, SetIn, TriedCopy, TriedPut, TriedRead, TriedRelease, TriedTouch, numbers_of};
+ghost use Rattle.poll82599_c.specs.batches.Packets.{HasNoByte, IsMade, Packed, Pushed, SetIn, TriedAppend, TriedCopy, TriedExtend, TriedMove, TriedPut, TriedRead, TriedRelease, TriedTouch, numbers_of};
 
 use crate::batches::found::Found;
 use crate::end::End;
@@ -12,7 +13,7 @@ use crate::makings::{Unmade, boxed, stash_of};
 use arrayvec::ArrayVec;
 use buffer_pool::{Packet, STASH_BUFFERS, Stash};
 use driver::MOST_BATCH;
-use limits::{BUFFER_BYTES, LEAST_FRAME, MOST_FRAME};
+use limits::{BUFFER_BYTES, LEAST_FRAME, MOST_FRAME, MOST_SEGMENTS};
 use std::alloc::Global;
 use std::marker::Model;
 
@@ -67,6 +68,22 @@ impl Packets {
         }
         self.list.push(packed(&mut self.stash, frame));
         1
+    }
+
+    /// Appends a segment of 1 to 2,048 bytes to the last packet. Returns 1: done; 0: there is no packet, or no empty buffer;
+    /// 2: the length is another, or the packet would have more than 15 segments or 15,000 bytes.
+    pub(crate) fn append(&mut self, bytes: &[u8]) -> u32
+        ensures step { TriedAppend result bytes.now self.old self.new }
+    {
+        if self.list.len() == 0 {
+            return 0;
+        }
+        let Some(mut packet) = self.list.pop() else {
+            unreachable!()
+        };
+        let answer = extend(&mut packet, &mut self.stash, bytes);
+        self.list.push(packet);
+        answer
     }
 
     /// Copies packet `i`, counted from 0, to the beginning of `room`. Returns 1: done; 0: there is no such packet; 4:
@@ -125,6 +142,19 @@ impl Packets {
         emptied(packet, &mut self.stash);
         1
     }
+
+    /// Moves packet `i`, with its buffers, to the end of another worker's list. Returns 1: done; 0: there is no such
+    /// packet, or the other list has 32.
+    pub(crate) fn move_to(&mut self, i: usize, other: &mut Packets) -> u32
+        ensures step { TriedMove result i self.old other.old self.new other.new }
+    {
+        if self.list.len() <= i || other.list.is_full() {
+            return 0;
+        }
+        let moved = self.list.remove(i);
+        other.list.push(moved);
+        1
+    }
 }
 
 /// Makes a worker's packets: none, and `buffers` empty buffers. Refuses if `buffers` is not 16 to 256, or memory is
@@ -167,6 +197,25 @@ fn push_piece(packet: &mut Packet, stash: &mut Stash, bytes: &[u8])
     };
     buf.fill(bytes);
     packet.push_back(buf);
+}
+
+/// Appends a segment to a packet, in a buffer of the stash. The results are those of [`Packets::append`].
+fn extend(packet: &mut Packet, stash: &mut Stash, bytes: &[u8]) -> u32
+    requires whole { IsPacket packet.old }
+    ensures step { TriedExtend result bytes.now packet.old stash.old packet.new stash.new }
+    ensures whole { IsPacket packet.new }
+{
+    if bytes.is_empty() || BUFFER_BYTES < bytes.len() {
+        return 2;
+    }
+    if packet.segments() == MOST_SEGMENTS || MOST_FRAME < packet.len() + bytes.len() {
+        return 2;
+    }
+    if stash.is_empty() {
+        return 0;
+    }
+    push_piece(packet, stash, bytes);
+    1
 }
 
 /// Replaces a byte of packet `i`. Returns whether there is such a packet and byte.

@@ -1,13 +1,13 @@
 //! The exports that step an end, a queue, a device or a worker's packets.
 //!
-//! Each but `poll82599_packets_put` takes an operation's number in the call record and puts its result there. 1 means
+//! Each but `poll82599_packets_put`, `poll82599_packets_append` and `poll82599_packet_move` takes an operation's number in the call record and puts its result there. 1 means
 //! done; the other results are listed. `0xFFFF_FFFF` means an unknown operation, or a handle that is empty or of
 //! another kind; nothing changes. A handle is in one call at a time.
 ghost use Rattle.std.specs.Prelude.{◌≡◌, ◌≢◌, ◌<◌, ◌⊎◌, None};
 ghost use Rattle.ffi_handle.specs.Words.{is_set};
 ghost use Rattle.poll82599_c.specs.Handles.{as_packets, as_rx_controller, as_rx_device, as_rx_driver, as_rx_queue, as_sender, as_tx_controller, as_tx_device, as_tx_driver, as_tx_queue};
 ghost use Rattle.poll82599_c.specs.Held.{Among, Between};
-ghost use Rattle.poll82599_c.specs.batches.Packets.{Handled, MovedBuffers, TriedPut};
+ghost use Rattle.poll82599_c.specs.batches.Packets.{Handled, MovedBuffers, TriedAppend, TriedMove, TriedPut};
 ghost use Rattle.poll82599_c.specs.batches.Queues.{SameQueue};
 ghost use Rattle.poll82599_c.specs.batches.Receiving.{receiver};
 ghost use Rattle.poll82599_c.specs.batches.Receiving as rx_queue;
@@ -465,6 +465,52 @@ pub extern "C" fn poll82599_packets_put(alloc: Global, packets: &mut Handle, fra
     };
     packets.put(end);
     answer
+}
+
+/// Appends a segment of 1 to 2,048 bytes to the last packet. The worker's thread calls it. Returns 1: done; 0: there is
+/// no packet, or no empty buffer; 2: the length is another, or the packet would be too long.
+#[unsafe(no_mangle)]
+pub extern "C" fn poll82599_packets_append(alloc: Global, packets: &mut Handle, bytes: &[u8]) -> u32
+    ensures other { as_packets packets.old.held ≡ None → (result ≡ 4294967295) × (packets.new.held ≡ packets.old.held) }
+    ensures step { Between (TriedAppend result bytes.now) (as_packets packets.old.held) (as_packets packets.new.held) }
+{
+    match packets.take(alloc) {
+        None => NO_OPERATION,
+        Some(mut end) => {
+            let answer = match &mut *end {
+                End::Packets(held) => held.append(bytes),
+                _ => NO_OPERATION,
+            };
+            packets.put(end);
+            answer
+        }
+    }
+}
+
+/// Moves a packet, with its buffers, to the end of another worker's packets. The thread of both workers calls it.
+/// Returns 1: done; 0: there is no such packet, or the other worker has 32 packets.
+#[unsafe(no_mangle)]
+pub extern "C" fn poll82599_packet_move(
+    alloc: Global,
+    packets: &mut Handle,
+    packet: usize,
+    other: &mut Handle,
+) -> u32
+    ensures other { (as_packets packets.old.held ≡ None) ⊎ (as_packets other.old.held ≡ None) → (result ≡ 4294967295) × (packets.new.held ≡ packets.old.held) × (other.new.held ≡ other.old.held) }
+    ensures step { Among (TriedMove result packet) (as_packets packets.old.held) (as_packets other.old.held) (as_packets packets.new.held) (as_packets other.new.held) }
+{
+    match take_both(alloc, packets, other) {
+        None => NO_OPERATION,
+        Some((mut end, mut other_end)) => {
+            let answer = match (&mut *end, &mut *other_end) {
+                (End::Packets(held), End::Packets(receiving)) => held.move_to(packet, receiving),
+                _ => NO_OPERATION,
+            };
+            packets.put(end);
+            other.put(other_end);
+            answer
+        }
+    }
 }
 
 /// Handles one of a worker's packets. The worker's thread calls it. With 0 to 3 the result is 0 if there is no such

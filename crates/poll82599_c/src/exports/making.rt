@@ -1,5 +1,5 @@
 //! The exports that make a ring, a queue or a worker's packets. Any thread may call them.
-ghost use Rattle.std.specs.Prelude.{◌≡◌, ◌≢◌, ◌<◌, ◌⊎◌, [], pos};
+ghost use Rattle.std.specs.Prelude.{◌≡◌, ◌≢◌, ◌<◌, ◌⊎◌, [], None, pos};
 ghost use Rattle.limits.specs.RingLength.{IsRingLength};
 ghost use Rattle.limits.specs.FillSize.{IsFillSize};
 ghost use Rattle.ring_model.specs.declared.states.Completion.TheVariants as by;
@@ -14,13 +14,13 @@ ghost use Rattle.poll82599_c.specs.rings.TxEnds as tx;
 
 use crate::batches::fresh_packets;
 use crate::handle::Handle;
-use crate::makings::{completion_of, put_both, rx_ends, rx_queue, tx_ends, tx_queue};
+use crate::makings::{completion_of, put_both, put_one, rx_ends, rx_queue, tx_ends, tx_queue};
 use ffi_handle::is_set;
 use std::alloc::Global;
 
 /// Makes a receive ring of `descriptors` descriptors: its driver with `buffers` empty buffers, and its controller.
 /// Returns 0: done; 1: the length is not a power of two from 8 to 4,096; 2: memory was refused; 3: `buffers` is not 16 to
-/// 256. Only 0 changes the handles, which must be empty.
+/// 256; 5: a handle holds an object. Only 0 changes the handles.
 #[unsafe(no_mangle)]
 pub extern "C" fn poll82599_rx_new(
     alloc: Global,
@@ -33,16 +33,24 @@ pub extern "C" fn poll82599_rx_new(
     ensures length { (result ≡ pos 1) → ¬ IsRingLength descriptors }
     ensures buffers { (result ≡ pos 3) → (buffers < 16) ⊎ (256 < buffers) }
     ensures settings { result ≢ pos 4 }
-    ensures driver { (result ≢ pos 0) → driver.new ≡ driver.old }
-    ensures controller { (result ≢ pos 0) → controller.new ≡ controller.old }
+    ensures was_empty { (result ≡ pos 0) → (driver.old.held ≡ None) × (controller.old.held ≡ None) }
+    ensures in_use { (result ≡ pos 5) → (driver.old.held ≢ None) ⊎ (controller.old.held ≢ None) }
+    ensures kept { (result ≡ pos 5) → (driver.new.held ≡ driver.old.held) × (controller.new.held ≡ controller.old.held) }
+    ensures driver { (result ≢ pos 0) → (result ≢ pos 5) → driver.new ≡ driver.old }
+    ensures controller { (result ≢ pos 0) → (result ≢ pos 5) → controller.new ≡ controller.old }
 {
-    put_both(rx_ends(alloc, descriptors, buffers), driver, controller)
+    put_both(
+        alloc,
+        rx_ends(alloc, descriptors, buffers),
+        driver,
+        controller,
+    )
 }
 
 /// Makes a transmit ring of `descriptors` descriptors: its driver with `buffers` empty buffers, and its controller. The
 /// ring reports by DD in its descriptors, or by a head word if `by_head` is not 0. Returns 0: done; 1: the length is no
-/// power of two from 8 to 4,096; 2: memory was refused; 3: `buffers` is not 16 to 256. Only 0 changes the handles,
-/// which must be empty.
+/// power of two from 8 to 4,096; 2: memory was refused; 3: `buffers` is not 16 to 256; 5: a handle holds an object. Only
+/// 0 changes the handles.
 #[unsafe(no_mangle)]
 pub extern "C" fn poll82599_tx_new(
     alloc: Global,
@@ -57,17 +65,20 @@ pub extern "C" fn poll82599_tx_new(
     ensures length { (result ≡ pos 1) → ¬ IsRingLength descriptors }
     ensures buffers { (result ≡ pos 3) → (buffers < 16) ⊎ (256 < buffers) }
     ensures settings { result ≢ pos 4 }
-    ensures driver { (result ≢ pos 0) → driver.new ≡ driver.old }
-    ensures controller { (result ≢ pos 0) → controller.new ≡ controller.old }
+    ensures was_empty { (result ≡ pos 0) → (driver.old.held ≡ None) × (controller.old.held ≡ None) }
+    ensures in_use { (result ≡ pos 5) → (driver.old.held ≢ None) ⊎ (controller.old.held ≢ None) }
+    ensures kept { (result ≡ pos 5) → (driver.new.held ≡ driver.old.held) × (controller.new.held ≡ controller.old.held) }
+    ensures driver { (result ≢ pos 0) → (result ≢ pos 5) → driver.new ≡ driver.old }
+    ensures controller { (result ≢ pos 0) → (result ≢ pos 5) → controller.new ≡ controller.old }
 {
     let made = tx_ends(alloc, descriptors, buffers, completion_of(by_head));
-    put_both(made, driver, controller)
+    put_both(alloc, made, driver, controller)
 }
 
 /// Makes a receive queue of `descriptors` descriptors. Its driver takes up to `batch` packets at once. Its device fills
 /// buffers to `fill` bytes. If too few descriptors are free, it drops a frame, or holds it if `drop_en` is 0. Returns
 /// 0: done; 1: the length is not a power of two from 8 to 4,096; 2: memory was refused; 4: `batch` is not 1 to 32, or
-/// `fill` is not 1,024 or 2,048. Only 0 changes the handles, which must be empty.
+/// `fill` is not 1,024 or 2,048; 5: a handle holds an object. Only 0 changes the handles.
 #[unsafe(no_mangle)]
 pub extern "C" fn poll82599_rx_queue_new(
     alloc: Global,
@@ -82,10 +93,14 @@ pub extern "C" fn poll82599_rx_queue_new(
     ensures length { (result ≡ pos 1) → ¬ IsRingLength descriptors }
     ensures settings { (result ≡ pos 4) → ((batch ≡ 0) ⊎ (32 < batch)) ⊎ ¬ IsFillSize fill }
     ensures buffers { result ≢ pos 3 }
-    ensures queue { (result ≢ pos 0) → queue.new ≡ queue.old }
-    ensures device { (result ≢ pos 0) → device.new ≡ device.old }
+    ensures was_empty { (result ≡ pos 0) → (queue.old.held ≡ None) × (device.old.held ≡ None) }
+    ensures in_use { (result ≡ pos 5) → (queue.old.held ≢ None) ⊎ (device.old.held ≢ None) }
+    ensures kept { (result ≡ pos 5) → (queue.new.held ≡ queue.old.held) × (device.new.held ≡ device.old.held) }
+    ensures queue { (result ≢ pos 0) → (result ≢ pos 5) → queue.new ≡ queue.old }
+    ensures device { (result ≢ pos 0) → (result ≢ pos 5) → device.new ≡ device.old }
 {
     put_both(
+        alloc,
         rx_queue(alloc, descriptors, batch, fill, is_set(drop_en)),
         queue,
         device,
@@ -94,8 +109,8 @@ pub extern "C" fn poll82599_rx_queue_new(
 
 /// Makes a transmit queue of `descriptors` descriptors, and its device. The queue reports by DD in its descriptors, or
 /// by a head word if `by_head` is not 0. Its driver asks for a report with each `every`th frame. Returns 0: done; 1:
-/// the length is not a power of two from 8 to 4,096; 2: memory was refused; 4: `every` is not 1 to 4,096. Only 0 changes
-/// the handles, which must be empty.
+/// the length is not a power of two from 8 to 4,096; 2: memory was refused; 4: `every` is not 1 to 4,096; 5: a handle
+/// holds an object. Only 0 changes the handles.
 #[unsafe(no_mangle)]
 pub extern "C" fn poll82599_tx_queue_new(
     alloc: Global,
@@ -111,26 +126,25 @@ pub extern "C" fn poll82599_tx_queue_new(
     ensures length { (result ≡ pos 1) → ¬ IsRingLength descriptors }
     ensures settings { (result ≡ pos 4) → (every ≡ 0) ⊎ (4096 < every) }
     ensures buffers { result ≢ pos 3 }
-    ensures queue { (result ≢ pos 0) → queue.new ≡ queue.old }
-    ensures device { (result ≢ pos 0) → device.new ≡ device.old }
+    ensures was_empty { (result ≡ pos 0) → (queue.old.held ≡ None) × (device.old.held ≡ None) }
+    ensures in_use { (result ≡ pos 5) → (queue.old.held ≢ None) ⊎ (device.old.held ≢ None) }
+    ensures kept { (result ≡ pos 5) → (queue.new.held ≡ queue.old.held) × (device.new.held ≡ device.old.held) }
+    ensures queue { (result ≢ pos 0) → (result ≢ pos 5) → queue.new ≡ queue.old }
+    ensures device { (result ≢ pos 0) → (result ≢ pos 5) → device.new ≡ device.old }
 {
     let made = tx_queue(alloc, descriptors, every, completion_of(by_head));
-    put_both(made, queue, device)
+    put_both(alloc, made, queue, device)
 }
 
 /// Makes a worker's packets: none, and `buffers` empty buffers. Returns 0: done; 2: memory was refused; 3: `buffers` is
-/// not 16 to 256. Only 0 changes the handle, which must be empty.
+/// not 16 to 256; 5: the handle holds an object. Only 0 changes the handle.
 #[unsafe(no_mangle)]
 pub extern "C" fn poll82599_packets_new(alloc: Global, buffers: u32, packets: &mut Handle) -> i32
     ensures made { (result ≡ pos 0) → IsMade buffers (as_packets packets.new.held) }
     ensures buffers { (result ≡ pos 3) → (buffers < 16) ⊎ (256 < buffers) }
-    ensures kept { (result ≢ pos 0) → packets.new ≡ packets.old }
+    ensures was_empty { (result ≡ pos 0) → packets.old.held ≡ None }
+    ensures in_use { (result ≡ pos 5) → (packets.old.held ≢ None) × (packets.new.held ≡ packets.old.held) }
+    ensures kept { (result ≢ pos 0) → (result ≢ pos 5) → packets.new ≡ packets.old }
 {
-    match fresh_packets(alloc, buffers) {
-        Ok(made) => {
-            packets.put(made);
-            0
-        }
-        Err(why) => why.number(),
-    }
+    put_one(alloc, fresh_packets(alloc, buffers), packets)
 }

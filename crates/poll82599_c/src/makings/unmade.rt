@@ -32,7 +32,7 @@ impl Unmade {
 
     /// The result number of the export: 1 to 4, in the order of the variants.
     pub(crate) fn number(self) -> i32
-        ensures some { result ≢ pos 0 }
+        ensures some { (result ≢ pos 0) × (result ≢ pos 5) }
         ensures length { result ≡ pos 1 → self ≡ Unmade.Length }
         ensures buffers { result ≡ pos 3 → self ≡ Unmade.Buffers }
         ensures settings { result ≡ pos 4 → self ≡ Unmade.Settings }
