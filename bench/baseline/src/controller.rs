@@ -126,6 +126,12 @@ impl Wire {
         self.ends.len()
     }
 
+    /// Removes all frames, and keeps the memory.
+    pub fn clear(&mut self) {
+        self.bytes.clear();
+        self.ends.clear();
+    }
+
     /// The bytes of frame `i`.
     pub fn frame(&self, i: usize) -> &[u8] {
         let start = if i == 0 { 0 } else { self.ends[i - 1] };

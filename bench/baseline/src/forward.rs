@@ -15,7 +15,7 @@ use std::thread;
 /// The number of bytes to which buffers are filled.
 const FILL: usize = 2048;
 
-/// A wire that is not kept is replaced after this many frames, before its memory would have to grow.
+/// A wire that is not kept is emptied after this many frames, and keeps its memory.
 const KEPT: usize = 4;
 
 /// The frames of a flow: those at these places of a list, again and again, `count` in all.
@@ -193,7 +193,7 @@ impl Side for Controllers<'_> {
         if self.tx.turn(&mut self.wire) == Turn::Sent {
             self.sent += 1;
             if !self.keeps && self.wire.len() == KEPT {
-                self.wire = Wire::default();
+                self.wire.clear();
             }
             progress = Progress::Worked;
         }

@@ -1,4 +1,4 @@
-//! Forwards a few frames on each flow again and again, and drops the wires.
+//! Forwards a few frames on each flow again and again, and empties the wires.
 ghost use Rattle.settings.specs.Configs.{IsLawful};
 
 use crate::hot_flow::HotFlow;

@@ -1,4 +1,4 @@
-//! Flows on which a few frames are offered again and again, and whose wires are dropped.
+//! Flows on which a few frames are offered again and again, and whose wires are emptied.
 ghost use Rattle.std.specs.Prelude.{◌≡◌, ◌&&◌, IfErr};
 ghost use Rattle.flows.specs.Sides.{has_ended};
 ghost use Rattle.refusals.specs.declared.errors.ForwardError.TheVariants.{Memory};
@@ -12,13 +12,13 @@ use std::alloc::Global;
 use std::sync::Wait;
 use tx_ring::{TxControllerEnd, TxRing};
 
-/// A new wire begins after this many frames, before the memory of the old one has to grow (with frames of 1,500 bytes).
+/// The wire is emptied after this many frames, and keeps its memory.
 const KEPT: usize = 4;
 
 /// The number of bytes to which buffers are filled.
 const FILL: usize = 2_048;
 
-/// The controller's side of a flow. It offers a few frames again and again, and drops its wire after a few frames.
+/// The controller's side of a flow. It offers a few frames again and again, and empties its wire after a few frames.
 #[derive(Drop)]
 pub(crate) struct HotFlow<'a> {
     from: &'a RxRing,
@@ -32,7 +32,6 @@ pub(crate) struct HotFlow<'a> {
     next: usize,
     /// How many frames still have to be stored, dropped or refused.
     left: u64,
-    alloc: Global,
     wire: Wire,
     /// How many frames were sent.
     sent: u64,
@@ -63,7 +62,6 @@ impl<'a> HotFlow<'a> {
             frames,
             next: 0,
             left: count,
-            alloc,
             wire: Wire::new(alloc),
             sent: 0,
         }
@@ -113,7 +111,7 @@ impl<'a> HotFlow<'a> {
         true
     }
 
-    /// Sends the next frame. Returns whether there was one. Drops the wire once it has `KEPT` frames.
+    /// Sends the next frame. Returns whether there was one. Empties the wire once it has `KEPT` frames.
     fn send(&mut self) -> Result<bool, ForwardError>
         ensures { IfErr result (λ e. e ≡ Memory) }
     {
@@ -124,7 +122,7 @@ impl<'a> HotFlow<'a> {
             return Err(ForwardError::Memory);
         };
         if self.wire.len() == KEPT {
-            self.wire = Wire::new(self.alloc);
+            self.wire.clear();
         }
         let sent = turn == Turn::Sent;
         self.sent = self.sent.saturating_add(u64::from(sent));
