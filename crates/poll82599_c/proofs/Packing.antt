@@ -80,7 +80,7 @@ module _ (frame had : List ℕ) (lawful : HasFrameLength frame) where
 pub split_is : (n : ℕ) (rest front back : List ℕ) → front ≡ take n rest → back ≡ drop n rest → rest ≡ front ++ back
 split_is n rest front back f b = sym (take-append-drop n rest) ∙ (ap (λ l. l ++ drop n rest) (sym f) ∙ ap (λ l. front ++ l) (sym b))
 
--- a packet with one more buffer is one, if it is not too long
+-- a packet with one more buffer is still a packet, if it is not too long
 pub packet_grown : (bytes : List ℕ) (packet : List Buffer) (had : List ℕ) (packet' : List Buffer) (has : List ℕ) → Pushed bytes packet had packet' has
     → 0 < length bytes → length packet < MOST_SEGMENTS → length (bytes_of packet) + length bytes ≤ MOST_FRAME → IsPacket packet → IsPacket packet'
 packet_grown bytes packet had packet' has p some few short h =

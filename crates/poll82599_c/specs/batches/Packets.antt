@@ -59,14 +59,14 @@ HasNoPlace frame w = (length w.packets ≡ MOST_BATCH) ⊎ (BUFFER_BYTES * lengt
 abbrev pub CannotGrow : Bytes → List Buffer → Type 0
 CannotGrow bytes packet = (bytes ≡ []) ⊎ ((BUFFER_BYTES < length bytes) ⊎ ((length packet ≡ MOST_SEGMENTS) ⊎ (MOST_FRAME < length (bytes_of packet) + length bytes)))
 
--- 1: the packet has one more buffer; 0: the stash is empty; 2: it cannot grow so
+-- 1: the packet has one more buffer; 0: the stash is empty; 2: the packet cannot grow by these bytes
 abbrev pub TriedExtend : ℕ → Bytes → List Buffer → List ℕ → List Buffer → List ℕ → Type 0
 TriedExtend zero bytes old had new has = (had ≡ []) × (new ≡ old) × (has ≡ had)
 TriedExtend (suc zero) bytes old had new has = Pushed bytes old had new has
 TriedExtend (suc (suc zero)) bytes old had new has = CannotGrow bytes old × (new ≡ old) × (has ≡ had)
 TriedExtend _ bytes old had new has = ⊥
 
--- so it went with the last packet
+-- the last packet was extended, with this result
 pub record Appended (answer : ℕ) (bytes : Bytes) (old new : Worked) : Type 0 where
   pub before : List (List Buffer)
   pub packet : List Buffer
@@ -75,7 +75,7 @@ pub record Appended (answer : ℕ) (bytes : Bytes) (old new : Worked) : Type 0 w
   pub is : new.packets ≡ before ++ longer ∷ []
   pub grew : TriedExtend answer bytes packet old.stash longer new.stash
 
--- there is no packet, or so it went
+-- 0 without a packet, and otherwise the result for the last packet
 abbrev pub TriedAppend : ℕ → Bytes → Worked → Worked → Type 0
 TriedAppend answer bytes old new = ((answer ≡ 0) × (old.packets ≡ []) × (new ≡ old)) ⊎ Appended answer bytes old new
 

@@ -1,8 +1,8 @@
 //! The exports that step an end, a queue, a device or a worker's packets.
 //!
-//! Each but `poll82599_packets_put`, `poll82599_packets_append` and `poll82599_packet_move` takes an operation's number in the call record and puts its result there. 1 means
-//! done; the other results are listed. `0xFFFF_FFFF` means an unknown operation, or a handle that is empty or of
-//! another kind; nothing changes. A handle is in one call at a time.
+//! Each but `poll82599_packets_put`, `poll82599_packets_append` and `poll82599_packet_move` takes an operation's number
+//! in the call record and puts its result there. 1 means done; the other results are listed. `0xFFFF_FFFF` means an
+//! unknown operation, or a handle that is empty or of another kind; nothing changes. A handle is in one call at a time.
 ghost use Rattle.std.specs.Prelude.{◌≡◌, ◌≢◌, ◌<◌, ◌⊎◌, None};
 ghost use Rattle.ffi_handle.specs.Words.{is_set};
 ghost use Rattle.poll82599_c.specs.Handles.{as_packets, as_rx_controller, as_rx_device, as_rx_driver, as_rx_queue, as_sender, as_tx_controller, as_tx_device, as_tx_driver, as_tx_queue};

@@ -1,4 +1,4 @@
--- A packet that grows by a buffer stays one.
+-- A packet with one more buffer is still a packet.
 use Rattle.std.proofs.Common.{rules}
 use Rattle.poll82599_c.proofs.Packing.{packet_grown}
 use Rattle.poll82599_c.proofs.batches.packets.extend.Goals as goal

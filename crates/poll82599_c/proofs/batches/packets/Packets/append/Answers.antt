@@ -1,4 +1,4 @@
--- The list has room again for the packet that was taken off it, and what it has is packets.
+-- The list has room for the packet that was removed from it, and contains packets only.
 use Rattle.std.proofs.Common.{rules, ◌+◌, ◌<◌, ◌≡◌, length, subst, sym, arith}
 use Rattle.std.specs.Prelude.{All}
 use Rattle.std.proofs.lemmas.List.Elements.{All-push, All-take}

@@ -1,4 +1,4 @@
--- What stays is packets, and so is what the other worker has with the one that came.
+-- Both lists contain packets only, as before.
 use Rattle.std.proofs.Common.{◌≡◌, ◌<◌, rules, length, subst, sym, refl}
 use Rattle.std.specs.Prelude.{All, Some, slice_get}
 use Rattle.std.proofs.lemmas.List.Elements.{All-push}
