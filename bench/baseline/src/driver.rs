@@ -54,6 +54,16 @@ impl<'a> RxDriver<'a> {
         self.end.look_off()
     }
 
+    /// The most packets that a call takes.
+    pub fn batch(&self) -> usize {
+        self.batch
+    }
+
+    /// The number of descriptors.
+    pub fn size(&self) -> usize {
+        self.end.size()
+    }
+
     /// Whether segments of an unfinished frame were taken.
     pub fn has_chain(&self) -> bool {
         !self.chain.is_empty()

@@ -5,12 +5,13 @@ use crate::buffer::Buffer;
 use crate::controller::{Offer, RxController, Tally, Turn, TxController, Wire};
 use crate::driver::{MOST_BATCH, RxDriver, TxDriver};
 use crate::packet::{Packet, Stash};
-use crate::patience::Patience;
+use crate::patience::{Patience, Restraint};
 use crate::ring::Ring;
 use crate::tx_ring::{Completion, TxRing};
 use std::sync::atomic::{AtomicBool, Ordering::SeqCst};
 use std::sync::Mutex;
 use std::thread;
+use std::time::{Duration, Instant};
 
 /// The number of bytes to which buffers are filled.
 const FILL: usize = 2048;
@@ -50,6 +51,8 @@ pub struct Report {
 #[derive(PartialEq, Eq)]
 enum Progress {
     Worked,
+    /// It worked, but the batch was small.
+    Few,
     Idle,
     Over,
 }
@@ -121,7 +124,9 @@ impl Drivers<'_> {
             self.phase = Phase::Disabling;
             return Progress::Worked;
         }
-        if taken != 0 || posted != 0 {
+        if 0 < taken && taken < self.rx.batch().min(self.rx.size() / 16) {
+            Progress::Few
+        } else if taken != 0 || posted != 0 {
             Progress::Worked
         } else {
             Progress::Idle
@@ -206,8 +211,10 @@ fn serve<S: Side>(mut flows: Vec<S>, stop: &AtomicBool) -> Vec<S> {
     let mut over = vec![false; flows.len()];
     let mut left = flows.len();
     let mut patience = Patience::default();
+    let mut restraint = Restraint::default();
     while left != 0 {
         let mut worked = false;
+        let mut few = false;
         for (flow, over) in flows.iter_mut().zip(&mut over) {
             if *over {
                 continue;
@@ -217,6 +224,7 @@ fn serve<S: Side>(mut flows: Vec<S>, stop: &AtomicBool) -> Vec<S> {
             }
             match flow.turn() {
                 Progress::Worked => worked = true,
+                Progress::Few => few = true,
                 Progress::Idle => {}
                 Progress::Over => {
                     *over = true;
@@ -225,6 +233,13 @@ fn serve<S: Side>(mut flows: Vec<S>, stop: &AtomicBool) -> Vec<S> {
             }
         }
         if worked {
+            restraint.ease();
+        } else if few {
+            restraint.wait();
+        } else {
+            restraint.reset();
+        }
+        if few || worked {
             patience.reset();
         } else {
             patience.wait();
@@ -256,8 +271,8 @@ fn collect<S>(hands: Vec<Vec<S>>) -> Vec<S> {
     }
 }
 
-/// Forwards the frames of each flow.
-pub fn forward(feeds: &[Feed<'_>], plan: &Plan) -> Vec<Report> {
+/// Forwards the frames of each flow. Also returns the time of the workers' work.
+pub fn forward(feeds: &[Feed<'_>], plan: &Plan) -> (Vec<Report>, Duration) {
     let pool = Mutex::new((0..plan.buffers).map(|b| Buffer::new(b as u16)).collect());
     let share = (plan.buffers / feeds.len()).min(plan.ring + 255);
     let mut from: Vec<Ring> = feeds.iter().map(|_| Ring::new(plan.ring)).collect();
@@ -296,9 +311,11 @@ pub fn forward(feeds: &[Feed<'_>], plan: &Plan) -> Vec<Report> {
             finished: false,
         });
     }
+    let start = Instant::now();
     let (drivers, controllers) = run(drivers, controllers, plan.workers);
+    let spent = start.elapsed();
     let sides = drivers.into_iter().zip(controllers);
-    sides.map(|(driver, controller)| report(driver, controller)).collect()
+    (sides.map(|(driver, controller)| report(driver, controller)).collect(), spent)
 }
 
 fn run<'a>(

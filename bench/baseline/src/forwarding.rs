@@ -25,7 +25,8 @@ fn frames_of(load: &Load, busy: usize, keeps: bool) -> (Vec<Vec<u8>>, Vec<Vec<u3
     (frames, places.collect())
 }
 
-/// Forwards the frames of the load, shared out to `busy` flows. Returns the time.
+/// Forwards the frames of the load, shared out to `busy` flows. Returns the time: if the wires are kept, that of the whole
+/// call, which also makes the pool and the rings; otherwise that of the workers' work alone.
 pub fn run(load: &Load, batch: usize, busy: usize, workers: usize, keeps: bool) -> Duration {
     let (frames, places) = frames_of(load, busy, keeps);
     let plan = Plan {
@@ -51,8 +52,8 @@ pub fn run(load: &Load, batch: usize, busy: usize, workers: usize, keeps: bool) 
         })
         .collect();
     let start = Instant::now();
-    let reports = forward(&feeds, &plan);
-    let spent = start.elapsed();
+    let (reports, worked) = forward(&feeds, &plan);
+    let spent = if keeps { start.elapsed() } else { worked };
     for (feed, report) in feeds.iter().zip(&reports) {
         check(feed, report, keeps);
     }

@@ -26,3 +26,30 @@ impl Patience {
         self.tries = 0;
     }
 }
+
+/// The most spins between two rounds with little work.
+const MOST_SPINS: u32 = 1_023;
+
+/// Waits after rounds with little work, after each twice as long as after the one before.
+#[derive(Default)]
+pub struct Restraint {
+    spins: u32,
+}
+
+impl Restraint {
+    pub fn wait(&mut self) {
+        for _ in 0..self.spins {
+            hint::spin_loop();
+        }
+        self.spins = (2 * self.spins + 1).min(MOST_SPINS);
+    }
+
+    /// Counts a round with much work.
+    pub fn ease(&mut self) {
+        self.spins /= 2;
+    }
+
+    pub fn reset(&mut self) {
+        self.spins = 0;
+    }
+}

@@ -120,6 +120,10 @@ impl Driver<'_> {
         self.table.load_register(Register::Control) == DISABLED
     }
 
+    pub fn size(&self) -> usize {
+        self.table.size()
+    }
+
     /// How many descriptors can be posted.
     pub fn room(&self) -> usize {
         self.table.size() - 1 - self.table.between(self.next, self.fill)

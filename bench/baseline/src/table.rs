@@ -68,12 +68,14 @@ impl Table {
 
     /// # Safety
     /// The caller is the only end that may use the slot, and the slot is empty.
+    #[inline]
     pub unsafe fn put_in(&self, place: usize, buffer: Buffer) {
-        unsafe { *self.slots[place].get() = Some(buffer) }
+        unsafe { self.slots[place].get().write(Some(buffer)) }
     }
 
     /// # Safety
     /// The caller is the only end that may use the slot, and the slot is full.
+    #[inline]
     pub unsafe fn take_out(&self, place: usize) -> Buffer {
         unsafe {
             let slot = &mut *self.slots[place].get();

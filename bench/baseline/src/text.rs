@@ -121,7 +121,7 @@ pub fn run(pairs: usize, ring: usize, workers: usize) -> io::Result<bool> {
         buffers: 4_096,
         keeps: true,
     };
-    let reports = forward(&feeds, &plan);
+    let (reports, _) = forward(&feeds, &plan);
     let mut out = io::BufWriter::with_capacity(1 << 16, io::stdout().lock());
     print(&mut out, &reports, pairs)?;
     out.flush()?;

@@ -214,6 +214,11 @@ impl<'a> Flow for DriverFlow<'a> {
             .step(rt, gate, &self.flow_spec, &mut self.counts, was)?;
         Ok(if self.phase.is_over() {
             Progress::Over
+        } else if self
+            .flow_drivers
+            .is_small(self.counts.taken.saturating_sub(counts.taken))
+        {
+            Progress::Few
         } else if self.counts != counts || !self.phase.is_as(was) {
             Progress::Worked
         } else {

@@ -175,6 +175,12 @@ impl FlowDrivers {
         !self.rx.has_chain() && self.packets.is_empty() && self.tx.room() == self.tx.size() - 1
     }
 
+    /// Whether a batch of this many frames leaves room for many more: it isn't empty, but smaller than a batch may be and
+    /// than a sixteenth of the ring.
+    pub(crate) fn is_small(&self, taken: u64) -> bool {
+        0 < taken && taken < self.rx.batch().min(self.tx.size() as usize / 16) as u64
+    }
+
     /// Asks for the disabling of both queues.
     pub(crate) fn close(&mut self, flow_spec: &FlowSpec<'_>)
         requires from { self.old.rx.end.table ≡ flow_spec.now.from }

@@ -8,6 +8,8 @@ use std::sync::Wait;
 pub enum Progress {
     /// The turn did something.
     Worked,
+    /// The turn did something, but could have done much more: the other side is only a little ahead.
+    Few,
     /// There was nothing to do.
     Idle,
     /// The flow is over: nothing is left to do.

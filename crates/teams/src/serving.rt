@@ -1,7 +1,7 @@
 //! A worker's rounds over its flows.
 ghost use Rattle.std.specs.Prelude.{◌≡◌, ◌<◌, ◌⊎◌, true, All, map};
 ghost use Rattle.teams.specs.declared.ending.Ending.TheVariants.{Done};
-ghost use Rattle.teams.specs.declared.serving.Round.TheVariants.{Busy, Idle, Ended};
+ghost use Rattle.teams.specs.declared.serving.Round.TheVariants.{Busy, Few, Idle, Ended};
 ghost use Rattle.teams.specs.Endings.{IsSo};
 
 use crate::flow::{Flow, Progress};
@@ -15,6 +15,11 @@ use std::{hint, thread};
 /// side has mostly progressed by then.
 const SPINS: u32 = 64;
 
+/// The most spins for which a worker waits that finds little in one round after another, so that the other side gets
+/// ahead, and both move the lines that they share less often. After the first of these rounds it doesn't wait, so a frame
+/// that comes alone is not delayed; after each further one it waits twice as long.
+const MOST_SPINS: u32 = 1_023;
+
 /// The flows of a worker, and how its work ended.
 #[derive(Drop)]
 pub(crate) struct WorkerResult<F: Drop> {
@@ -27,6 +32,8 @@ pub(crate) struct WorkerResult<F: Drop> {
 enum Round {
     /// A flow found something to do.
     Busy,
+    /// A flow found something to do, and none found much.
+    Few,
     /// None did.
     Idle,
     /// The worker is at its end.
@@ -48,11 +55,12 @@ fn serve_round<F: Flow, R: Wait, G: Gate>(
     ensures keys { map F.key flows.new ≡ map F.key flows.old }
     ensures word { status.new.word ≡ status.old.word }
     ensures share { status.new.share ≡ status.old.share }
-    ensures going { (result ≡ Busy) ⊎ (result ≡ Idle) → status.new.ending ≡ Done }
+    ensures going { (result ≡ Busy) ⊎ ((result ≡ Few) ⊎ (result ≡ Idle)) → status.new.ending ≡ Done }
     ensures ending { result ≡ Ended → IsSo (All (λ f. F.over f ≡ true) flows.new) G.answers gate.now status.new.ending }
 {
     let mut all_over = true;
     let mut busy = false;
+    let mut few = false;
     for i in 0..flows.len() {
         if flows[i].is_over() {
             continue;
@@ -63,6 +71,7 @@ fn serve_round<F: Flow, R: Wait, G: Gate>(
         }
         match flows[i].turn(rt, gate) {
             Ok(Progress::Idle) => {}
+            Ok(Progress::Few) => few = true,
             Ok(_) => busy = true,
             Err(refusal) => {
                 status.refuse(rt, stop, refusal);
@@ -74,13 +83,15 @@ fn serve_round<F: Flow, R: Wait, G: Gate>(
         Round::Ended
     } else if busy {
         Round::Busy
+    } else if few {
+        Round::Few
     } else {
         Round::Idle
     }
 }
 
 /// Serves the flows until all are over, or the stop word is set. While none finds anything to do, the worker spins for
-/// a while, and then yields to other threads.
+/// a while, and then yields to other threads. While none finds much, it waits a little between two rounds.
 pub(crate) fn serve<F: Flow, R: Wait, G: Gate>(
     rt: &R,
     stop: &StopWord,
@@ -97,10 +108,12 @@ pub(crate) fn serve<F: Flow, R: Wait, G: Gate>(
     ensures ending { IsSo (All (λ f. F.over f ≡ true) result.flows.items) G.answers gate.now result.status.ending }
 {
     let mut idle = 0;
+    let mut spins = 0;
     for _ in rt.forever() {
         match serve_round(rt, stop, gate, flows.as_mut_slice(), &mut status) {
-            Round::Busy => idle = 0,
-            Round::Idle => idle = rest(idle),
+            Round::Busy => (idle, spins) = (0, spins / 2),
+            Round::Few => (idle, spins) = (0, wait(spins)),
+            Round::Idle => (idle, spins) = (rest(idle), 0),
             Round::Ended => return WorkerResult { flows, status },
         }
     }
@@ -116,4 +129,12 @@ fn rest(idle: u32) -> u32 {
         thread::yield_now();
         idle
     }
+}
+
+/// Waits for this many spins after a round with little work. Returns for how many to wait after the next one.
+fn wait(spins: u32) -> u32 {
+    for _ in 0..spins {
+        hint::spin_loop();
+    }
+    spins.saturating_mul(2).saturating_add(1).min(MOST_SPINS)
 }
