@@ -39,15 +39,15 @@ fn is_whole(served: &Served<DriverFlow<'_>, HotFlow<'_>>, workload: &Workload) -
     rest == 0 && served.refusal.is_none()
 }
 
-/// Makes a pool, and the rings and both sides of each flow. Workers serve them as in the forwarder. Returns whether all
-/// frames were sent.
-fn forward_hot<R: Threads + Wait + Sync>(
+/// Makes a pool, and the rings and both sides of each flow. Workers serve them as in the forwarder. Returns the time of
+/// their work, from their start to the last one's end.
+fn forward_hot<R: Threads + Wait + Clock + Sync>(
     rt: &R,
     alloc: Global,
     workload: &Workload,
     config: &Config,
     frames: &[Vec<u8>],
-) -> Result<bool>
+) -> Result<Duration>
     requires { IsLawful config.now }
 {
     let workers = config.workers as usize;
@@ -64,11 +64,14 @@ fn forward_hot<R: Threads + Wait + Sync>(
         &pool,
         &mut pass,
     )?;
+    let start = Instant::now(rt)?;
     let served = serve_flows(rt, alloc, &Open, sides.drivers, sides.controllers, workers);
-    Ok(is_whole(&served, workload))
+    let spent = start.elapsed(rt)?;
+    ensure!(is_whole(&served, workload), "not all frames were sent");
+    Ok(spent)
 }
 
-/// Forwards the workload by hot flows, and returns the time.
+/// Forwards the workload by hot flows, and returns the time of the workers' work.
 pub(crate) fn run_hot<R: Threads + Wait + Clock + Sync>(
     rt: &R,
     alloc: Global,
@@ -77,9 +80,5 @@ pub(crate) fn run_hot<R: Threads + Wait + Clock + Sync>(
     let config = workload.config();
     ensure!(config.is_lawful(), "the configuration is not valid");
     let frames = workload.bytes(alloc, FRAMES)?;
-    let start = Instant::now(rt)?;
-    let whole = forward_hot(rt, alloc, workload, &config, &frames)?;
-    let spent = start.elapsed(rt)?;
-    ensure!(whole, "not all frames were sent");
-    Ok(spent)
+    forward_hot(rt, alloc, workload, &config, &frames)
 }

@@ -3,9 +3,9 @@
 //! Depends on `forwarder`, the crates below it, and `anyhow`.
 //! Guarantees what a measurement needs to run a flow, and nothing else.
 //!
-//! It forwards a script of frames of one size, shared out to the flows in turn, and keeps the wires. Or it offers a few
-//! frames to each flow again and again, and empties the wires. The time is that of the whole call, which also makes the
-//! pool and the rings, and starts and joins the workers.
+//! It forwards a script of frames of one size, shared out to the flows in turn, and keeps the wires: the time is that of
+//! the whole call, which also makes the pool and the rings. Or it offers a few frames to each flow again and again, and
+//! empties the wires: the time is that of the workers' work alone.
 #![tactic(auto)]
 
 mod hot;
