@@ -36,6 +36,7 @@ complete -c poll82599 -n '__fish_seen_subcommand_from forward' -l head -d 'Repor
 complete -c poll82599 -n '__fish_seen_subcommand_from forward' -l quiet -d 'Do not print the frames that left'
 complete -c poll82599 -n '__fish_seen_subcommand_from forward' -l json -d 'Print the counts of each flow and of each port as JSON objects'
 complete -c poll82599 -n '__fish_seen_subcommand_from forward' -l progress -d 'Show progress on standard error once a second, with --json as a JSON object'
+complete -c poll82599 -n '__fish_seen_subcommand_from forward' -l rate -d 'Print frames, bytes, seconds, Mpps and Gbit/s on standard error at the end, with --json as a JSON object'
 complete -c poll82599 -n '__fish_seen_subcommand_from forward' -l capture -r -d 'Forward the frames of the capture FILE, which enter port P, queue Q, before those of a script; may be repeated'
 complete -c poll82599 -n '__fish_seen_subcommand_from forward' -l skip -d 'Leave out records of captures that are truncated, cut by a snap length, longer than 15,000 or shorter than 14 bytes, and report how many'
 complete -c poll82599 -n '__fish_seen_subcommand_from forward' -l limit -x -d 'Read at most this many frames of each capture, 0 to 4,294,967,295'

@@ -34,6 +34,7 @@ plain_options config printing explained files =
     ∷ flag (codes "quiet") printing.quiet
     ∷ flag (codes "json") printing.json
     ∷ flag (codes "progress") printing.progress
+    ∷ flag (codes "rate") printing.rate
     ∷ flag (codes "explain") explained
     ∷ file_option (codes "capture") (map source_word files.sources)
     ∷ flag (codes "skip") files.reading.skip
@@ -103,7 +104,7 @@ wires_plain (w ∷ ws) are =
 are_lawful : (words : List Text) (config : Config) (printing : Printing) (files : FileOptions) (says : SaysForward words config printing files) → AreLawful (options words config printing files says)
 are_lawful words config printing files says =
     let are = saying words config printing files says in
-    (are.pairs.lawful, (are.ring.lawful, (are.buffers.lawful, (are.bsize.lawful, (are.batch.lawful, (are.rs_every.lawful, (are.workers.lawful, (are.turns.lawful, (tt, (tt, (tt, (tt, (tt, (tt, (tt, (sources_plain files.sources says.are_files.sources, (tt, (limit_lawful files.reading.limit says.are_files.limit, (wires_plain files.wires says.are_files.wires, tt)))))))))))))))))))
+    (are.pairs.lawful, (are.ring.lawful, (are.buffers.lawful, (are.bsize.lawful, (are.batch.lawful, (are.rs_every.lawful, (are.workers.lawful, (are.turns.lawful, (tt, (tt, (tt, (tt, (tt, (tt, (tt, (tt, (sources_plain files.sources says.are_files.sources, (tt, (limit_lawful files.reading.limit says.are_files.limit, (wires_plain files.wires says.are_files.wires, tt))))))))))))))))))))
 
 words_are : (words : List Text) (config : Config) (printing : Printing) (files : FileOptions) (says : SaysForward words config printing files) → words ≡ codes "forward" ∷ all_words (options words config printing files says)
 words_are words config printing files says =
@@ -112,9 +113,10 @@ words_are words config printing files says =
     let flags : List Text → List Text = λ (limit : List Text). words_of (flag (codes "drop") config.drop_en)
     ++ (words_of (flag (codes "no-retry") (not config.retry)) ++ (words_of (flag (codes "head") (is_head config.completion))
     ++ (words_of (flag (codes "quiet") printing.quiet) ++ (words_of (flag (codes "json") printing.json)
-    ++ (words_of (flag (codes "progress") printing.progress) ++ (words_of (flag (codes "explain") says.explained)
+    ++ (words_of (flag (codes "progress") printing.progress) ++ (words_of (flag (codes "rate") printing.rate)
+    ++ (words_of (flag (codes "explain") says.explained)
     ++ (words_of (file_option (codes "capture") (map source_word files.sources)) ++ (words_of (flag (codes "skip") files.reading.skip)
-    ++ (limit ++ words_of (file_option (codes "wire-capture") (map wire_file_word files.wires))))))))))) in
+    ++ (limit ++ words_of (file_option (codes "wire-capture") (map wire_file_word files.wires)))))))))))) in
     says.words_are
     ∙ ap (λ (a : List Text). codes "forward" ∷ a)
     (both _ _ _ _ are.pairs.words_are (both _ _ _ _ are.ring.words_are (both _ _ _ _ are.buffers.words_are (both _ _ _ _ are.bsize.words_are
@@ -151,15 +153,16 @@ forward_found app words config printing files program says =
         quiet = found.2 11 none (omega arith);
         json = found.2 12 none (omega arith);
         progress = found.2 13 none (omega arith);
+        rate = found.2 14 none (omega arith);
       },
       record {
-        sources = found.2 15 none (omega arith);
+        sources = found.2 16 none (omega arith);
         reading = record {
-          skip = found.2 16 none (omega arith);
-          limit = found.2 17 none (omega arith) ∙ limit_value files.reading.limit says.are_files.limit;
+          skip = found.2 17 none (omega arith);
+          limit = found.2 18 none (omega arith) ∙ limit_value files.reading.limit says.are_files.limit;
           fits = says.are_files.limit;
         };
-        wires = found.2 18 none (omega arith);
+        wires = found.2 19 none (omega arith);
       },
     )
 

@@ -67,40 +67,44 @@ each P of-once of-decode of-replay of-forward of-from of-to of-schedules of-cove
 
 -- ---- what is not shown
 
--- the words ask to forward, with no progress and no capture on standard output
+-- the words ask to forward, with no progress, no rate and no capture on standard output
 pub record IsUnseen (words : List Text) (given : Config) (shown : Printing) : Type 0 where
   pub config : Config
   pub printing : Printing
   pub files : FileOptions
   pub says : SaysForward words config printing files
   pub no_progress : shown.progress ≡ false
+  pub no_rate : shown.rate ≡ false
   pub no_stream : streamed_port files.wires ≡ None
   pub no_skip : files.reading.skip ≡ false
   pub no_turns : given.turns ≡ 0
 
-record ShowsNothing (progress : Bool) (stream : Option ℕ) (skip : Bool) (turns : ℕ) : Type 0 where
+record ShowsNothing (progress rate : Bool) (stream : Option ℕ) (skip : Bool) (turns : ℕ) : Type 0 where
   no_progress : progress ≡ false
+  no_rate : rate ≡ false
   no_stream : stream ≡ None
   no_skip : skip ≡ false
   no_turns : turns ≡ 0
 
-shows-nothing : (progress : Bool) (stream : Option ℕ) (skip : Bool) (turns : ℕ) → forward_shows progress stream skip turns ≡ false → ShowsNothing progress stream skip turns
-shows-nothing true stream skip turns e = let bad : ⊥ = cc e in absurd bad
-shows-nothing false (Some port) skip turns e = let bad : ⊥ = cc e in absurd bad
-shows-nothing false None true turns e = let bad : ⊥ = cc e in absurd bad
-shows-nothing false None false (suc n) e = let bad : ⊥ = cc e in absurd bad
-shows-nothing false None false zero e = record { no_progress = refl; no_stream = refl; no_skip = refl; no_turns = refl }
+shows-nothing : (progress rate : Bool) (stream : Option ℕ) (skip : Bool) (turns : ℕ) → forward_shows progress rate stream skip turns ≡ false → ShowsNothing progress rate stream skip turns
+shows-nothing true rate stream skip turns e = let bad : ⊥ = cc e in absurd bad
+shows-nothing false true stream skip turns e = let bad : ⊥ = cc e in absurd bad
+shows-nothing false false (Some port) skip turns e = let bad : ⊥ = cc e in absurd bad
+shows-nothing false false None true turns e = let bad : ⊥ = cc e in absurd bad
+shows-nothing false false None false (suc n) e = let bad : ⊥ = cc e in absurd bad
+shows-nothing false false None false zero e = record { no_progress = refl; no_rate = refl; no_stream = refl; no_skip = refl; no_turns = refl }
 
 unseen : (words : List Text) (config given : Config) (printing shown : Printing) (files : FileOptions) → SaysForward words config printing files → given ≡ config → shown ≡ printing
-    → forward_shows printing.progress (streamed_port files.wires) files.reading.skip config.turns ≡ false → IsUnseen words given shown
+    → forward_shows printing.progress printing.rate (streamed_port files.wires) files.reading.skip config.turns ≡ false → IsUnseen words given shown
 unseen words config given printing shown files says one same dark =
-    let no = shows-nothing printing.progress (streamed_port files.wires) files.reading.skip config.turns dark in
+    let no = shows-nothing printing.progress printing.rate (streamed_port files.wires) files.reading.skip config.turns dark in
     record {
       config = config;
       printing = printing;
       files = files;
       says = says;
       no_progress = ap (λ (p : Printing). p.progress) same ∙ no.no_progress;
+      no_rate = ap (λ (p : Printing). p.rate) same ∙ no.no_rate;
       no_stream = no.no_stream;
       no_skip = no.no_skip;
       no_turns = ap (λ (c : Config). c.turns) one ∙ no.no_turns;

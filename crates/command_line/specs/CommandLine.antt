@@ -74,6 +74,7 @@ forward_app = with_rules (codes "forward") (number_rule (codes "pairs") (codes "
     ∷ flag_rule (codes "quiet")
     ∷ flag_rule (codes "json")
     ∷ flag_rule (codes "progress")
+    ∷ flag_rule (codes "rate")
     ∷ file_rule (codes "capture")
     ∷ skip_rule
     ∷ limit_rule
@@ -151,8 +152,8 @@ pub record SaysReplay (words : List Text) (plan : QueuePlan) : Type 0 where
 
 -- the words are `forward` and its options in this order: `--drop` if frames are dropped, `--no-retry` if packets are,
 -- `--head` if the transmit queues report by a head word, `--quiet` if no wire is printed, `--json` if the counts are
--- objects, `--progress` if progress is shown, and `--explain` if a refusal is explained; then `--capture` for each source, `--skip` if
--- faulty records of captures are left out, `--limit` if their frames are limited, and `--wire-capture` for each wire file
+-- objects, `--progress` if progress is shown, `--rate` if the rate is, and `--explain` if a refusal is explained; then `--capture` for each
+-- source, `--skip` if faulty records of captures are left out, `--limit` if their frames are limited, and `--wire-capture` for each wire file
 pub record SaysForward (words : List Text) (config : Config) (printing : Printing) (files : FileOptions) : Type 0 where
   pub pairs : List Text
   pub ring : List Text
@@ -177,7 +178,8 @@ pub record SaysForward (words : List Text) (config : Config) (printing : Printin
       ++ (flag_words (codes "--quiet") printing.quiet
       ++ (flag_words (codes "--json") printing.json
       ++ (flag_words (codes "--progress") printing.progress
-      ++ (explain_words explained ++ words_of_files files)))))))))))))))
+      ++ (flag_words (codes "--rate") printing.rate
+      ++ (explain_words explained ++ words_of_files files))))))))))))))))
   pub are_files : AreFiles files
 
 -- the values of the arguments
@@ -211,6 +213,7 @@ pub record HasPrinting (rows : List Row) (printing : Printing) : Type 0 where
   pub quiet : HasFlag rows (codes "quiet") printing.quiet
   pub json : HasFlag rows (codes "json") printing.json
   pub progress : HasFlag rows (codes "progress") printing.progress
+  pub rate : HasFlag rows (codes "rate") printing.rate
 
 -- the request is `once` with these digits
 abbrev pub IsOnce : Request → Text → Type 0

@@ -71,22 +71,23 @@ IsAsked (to_capture port) a = IsCapture a (ToCapture port)
 IsAsked (schedules request) a = IsSchedules a request
 IsAsked (cover request) a = IsCover a request
 
--- besides refusals, a forwarding writes its progress to standard error, its counts if a capture goes to standard output,
--- the records that were left out of captures, and the flows that `--turns` cut
-abbrev pub forward_shows : Bool → Option ℕ → Bool → ℕ → Bool
-forward_shows true stream skip turns = true
-forward_shows false (Some port) skip turns = true
-forward_shows false None true turns = true
-forward_shows false None false zero = false
-forward_shows false None false (suc n) = true
+-- besides refusals, a forwarding writes its progress and its rate to standard error, its counts if a capture goes to
+-- standard output, the records that were left out of captures, and the flows that `--turns` cut
+abbrev pub forward_shows : Bool → Bool → Option ℕ → Bool → ℕ → Bool
+forward_shows true rate stream skip turns = true
+forward_shows false true stream skip turns = true
+forward_shows false false (Some port) skip turns = true
+forward_shows false false None true turns = true
+forward_shows false false None false zero = false
+forward_shows false false None false (suc n) = true
 
--- `forward --progress`, `forward --wire-capture P=-`, `forward --skip`, `forward --turns`, `from-capture --skip` and
--- `schedules --cover` write to it
+-- `forward --progress`, `forward --rate`, `forward --wire-capture P=-`, `forward --skip`, `forward --turns`,
+-- `from-capture --skip` and `schedules --cover` write to it
 abbrev pub is_shown : ParsedCommand → Bool
 is_shown (once digits) = false
 is_shown (decode form digits) = false
 is_shown (replay plan) = false
-is_shown (forward config printing files) = forward_shows printing.progress (streamed_port files.wires) files.reading.skip config.turns
+is_shown (forward config printing files) = forward_shows printing.progress printing.rate (streamed_port files.wires) files.reading.skip config.turns
 is_shown (from_capture port queue reading) = reading.skip
 is_shown (to_capture port) = false
 is_shown (schedules request) = false

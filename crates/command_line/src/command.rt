@@ -255,10 +255,12 @@ fn printing_in<'a>(forward: &ArgMatches<'a>) -> Printing
     let quiet = flag_in(forward, "quiet");
     let json = flag_in(forward, "json");
     let progress = flag_in(forward, "progress");
+    let rate = flag_in(forward, "rate");
     Printing {
         quiet,
         json,
         progress,
+        rate,
     }
 }
 

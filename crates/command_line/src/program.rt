@@ -192,6 +192,10 @@ const SECOND: &[CommandEntry] = &[
                 id: "progress",
                 help: "Show progress on standard error once a second, with --json as a JSON object",
             },
+            Param::Flag {
+                id: "rate",
+                help: "Print frames, bytes, seconds, Mpps and Gbit/s on standard error at the end, with --json as a JSON object",
+            },
             Param::File {
                 id: "capture",
                 name: "P:Q=FILE",

@@ -1,4 +1,4 @@
-//! How a report is printed, and whether progress is shown.
+//! How a report is printed, and whether progress and a rate are shown.
 ghost use Rattle.std.specs.Prelude.{◌≡◌, None, Some, false, true};
 ghost use Rattle.requests.specs.declared.printing.ProgressForm.TheVariants.{Objects};
 
@@ -13,7 +13,7 @@ pub enum ProgressForm {
     Objects,
 }
 
-/// How a report is printed, and whether progress is shown.
+/// How a report is printed, and whether progress and a rate are shown.
 #[derive(Clone, Copy, Debug, Default, PartialEq, Eq)]
 pub struct Printing {
     /// Omits the frames of the wires.
@@ -23,6 +23,8 @@ pub struct Printing {
     /// Shows progress once a second during the run, on a stream other than the output: as JSON objects with `json`,
     /// otherwise as words.
     pub progress: bool,
+    /// Shows the frames and bytes that left and their rate at the end of the run, on the same stream and in the same form.
+    pub rate: bool,
 }
 
 impl Printing {

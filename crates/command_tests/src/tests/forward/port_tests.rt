@@ -211,6 +211,7 @@ fn each_port_has_the_sums_of_its_flows(rt: HostRuntime) {
         quiet: true,
         json: true,
         progress: false,
+        rate: false,
     };
     let page = text_of(rt.alloc(), report.flows.as_slice(), 4, printing).expect(&rt, "memory");
     same(
