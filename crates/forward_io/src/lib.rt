@@ -22,4 +22,5 @@ mod sums;
 mod text;
 
 pub use progress::{LiveTotals, ProgressLine};
+pub use sums::WireTotals;
 pub use text::text_of;

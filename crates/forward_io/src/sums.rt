@@ -1,6 +1,6 @@
 //! The sums of a port's flows.
 ghost use Rattle.std.specs.Prelude.{◌≡◌, length, sum_by};
-ghost use Rattle.forward_io.specs.Objects.{sums_of};
+ghost use Rattle.forward_io.specs.Objects.{sums_of, total};
 ghost use Rattle.forward_io.specs.Sums.{with_came, with_left};
 
 use controller::Wire;
@@ -61,6 +61,29 @@ impl PortSums {
             tx_bytes: self.tx_bytes.saturating_add(bytes),
             tx_dropped: self.tx_dropped.saturating_add(flow.driven.tx_dropped),
             ..self
+        }
+    }
+}
+
+/// The frames and bytes on the wires of flows. A sum that exceeds `u64::MAX` is that number.
+#[derive(Clone, Copy, Debug, PartialEq, Eq)]
+pub struct WireTotals {
+    /// The frames.
+    pub frames: u64,
+    /// The bytes of the frames.
+    pub bytes: u64,
+}
+
+impl WireTotals {
+    /// The sums of these flows.
+    pub fn of(flows: &[FlowReport]) -> WireTotals
+        ensures frames { result.frames ≡ total (λ r. length r.wire) flows.now }
+        ensures bytes { result.bytes ≡ total (λ r. sum_by length r.wire) flows.now }
+    {
+        let sums = PortSums::of(&[], flows);
+        WireTotals {
+            frames: sums.tx_packets,
+            bytes: sums.tx_bytes,
         }
     }
 }

@@ -1,4 +1,5 @@
 pub mod Forwards
 pub mod CaptureForwards
 pub mod ShownSums
+pub mod RateLines
 pub mod RunEnds

@@ -10,7 +10,7 @@ ghost use Rattle.requests.specs.Files.{streamed_port};
 
 use crate::bounds::Host;
 use crate::cuts::{Due, explain_cuts};
-use crate::page::forwarded;
+use crate::rate::{RateLine, rate_of, timed, write_rate};
 use forward_io::captured::{FileRefusal, Intake, page_for, script_for, targets_of, tell};
 use forwarder::Config;
 use requests::{EXIT_SUCCESS, Printing, WireFile, put};
@@ -41,7 +41,7 @@ pub struct Forwarding<'c, 's, 'w> {
 /// If a wire file is standard output (`-` or `/dev/stdout`), prints that capture to `output` instead, and the counts
 /// to `screen`. If records were left out of a capture, a line on `screen` says how many, and with `json` an object on
 /// `output`. Prints a refusal to `faults` as one line, with status 1, after the name of the file that it concerns,
-/// if any. Shows progress on `screen`, if selected. With `explain`, a second line explains a refusal, and a line on
+/// if any. Shows progress and the rate on `screen`, if selected. With `explain`, a second line explains a refusal, and a line on
 /// `screen` names each flow that was cut before all its frames were offered.
 ///
 /// The first of these refusals applies: a wire file that cannot be written, or that is the same file as another or as a
@@ -64,7 +64,7 @@ pub fn answer<R: Host + Sync + Files, I: Read, W: Write, E: Write, M: Write + Is
     ensures refused { result ≡ EXIT_REFUSED
         → EndsRefused asked.now.config.now (outlet asked.now.printing asked.now.wires.now) asked.now.intake (I.remaining input.old) (W.contents output.old) (W.contents output.new) }
     ensures unread { reads_script asked.now.intake ≡ false → input.new ≡ input.old }
-    ensures screen { asked.now.printing.progress ≡ false → streamed_port asked.now.wires.now ≡ None → asked.now.intake.reading.skip ≡ false → asked.now.config.now.turns ≡ 0 → screen.new ≡ screen.old }
+    ensures screen { asked.now.printing.progress ≡ false → asked.now.printing.rate ≡ false → streamed_port asked.now.wires.now ≡ None → asked.now.intake.reading.skip ≡ false → asked.now.config.now.turns ≡ 0 → screen.new ≡ screen.old }
 {
     let mut why = String::new(alloc);
     match perform(rt, alloc, asked, input, output, screen, &mut why) {
@@ -113,25 +113,29 @@ pub fn perform<R: Host + Sync + Files, I: Read, W: Write, M: Write + IsTerminal 
     ensures refused { IfErr result (λ e.
         WithholdsPage asked.now.config.now (outlet asked.now.printing asked.now.wires.now) asked.now.intake asked.now.wires.now (I.remaining input.old) e (W.contents output.old) (W.contents output.new)) }
     ensures unread { reads_script asked.now.intake ≡ false → input.new ≡ input.old }
-    ensures screen { asked.now.printing.progress ≡ false → streamed_port asked.now.wires.now ≡ None → asked.now.intake.reading.skip ≡ false → screen.new ≡ screen.old }
+    ensures screen { asked.now.printing.progress ≡ false → asked.now.printing.rate ≡ false → streamed_port asked.now.wires.now ≡ None → asked.now.intake.reading.skip ≡ false → screen.new ≡ screen.old }
 {
-    let (bytes, text) = page_of(rt, alloc, asked, input, screen, why)?;
+    let mut rate = None;
+    let (bytes, text) = page_of(rt, alloc, asked, input, screen, &mut rate, why)?;
     put(bytes.as_slice(), output)?;
     if let Some(text) = text {
         let _ = screen.write_all(text.as_bytes());
         let _ = screen.flush();
     }
+    write_rate(screen, rate);
     Ok(())
 }
 
 /// Writes the wire files. Returns the bytes for standard output, and the text for standard error: the records that were
-/// left out, and the counts if a capture replaces them on standard output.
+/// left out, and the counts if a capture replaces them on standard output. Sets `rate` to the rate of the run, if it is
+/// shown.
 fn page_of<R: Host + Sync + Files, I: Read, M: Write + IsTerminal + Send>(
     rt: &R,
     alloc: Global,
     asked: &Forwarding<'_, '_, '_>,
     input: &mut I,
     screen: &mut M,
+    rate: &mut Option<RateLine>,
     why: &mut String,
 ) -> Result<(Vec<u8>, Option<String>), FileRefusal>
     ensures page { IfOk result (λ p. IsPage asked.now.config.now (outlet asked.now.printing asked.now.wires.now) asked.now.intake (I.remaining input.old) p.0.items) }
@@ -139,6 +143,7 @@ fn page_of<R: Host + Sync + Files, I: Read, M: Write + IsTerminal + Send>(
     ensures refused { IfErr result (λ e. HasNoPage asked.now.config.now asked.now.intake asked.now.wires.now (I.remaining input.old) e) }
     ensures unread { reads_script asked.now.intake ≡ false → input.new ≡ input.old }
     ensures screen { asked.now.printing.progress ≡ false → screen.new ≡ screen.old }
+    ensures rate { asked.now.printing.rate ≡ false → rate.old ≡ None → rate.new ≡ None }
 {
     let (config, printing) = (asked.config, asked.printing);
     let (intake, wires) = (&asked.intake, asked.wires);
@@ -146,9 +151,10 @@ fn page_of<R: Host + Sync + Files, I: Read, M: Write + IsTerminal + Send>(
     let (script, skipped) = script_for(rt, alloc, config.pairs, intake, input, why)?;
     let due = Due::of(&script);
     let form = printing.form(screen.is_terminal());
-    let report = forwarded(rt, alloc, config, script, screen, form)?;
+    let (report, nanos) = timed(rt, alloc, config, script, screen, form)?;
     let pairs = config.pairs as usize;
     let flows = report.flows.as_slice();
+    *rate = rate_of(printing, flows, nanos);
     let _ = explain_cuts(why, pairs, config.turns, &due, flows);
     let page = page_for(
         rt,

@@ -63,7 +63,7 @@ fn page_for<R: Threads + Wait + Clock + Sync, M: Write + Send>(
 }
 
 /// Forwards a script and frees it.
-pub(crate) fn forwarded<R: Threads + Wait + Clock + Sync, M: Write + Send>(
+fn forwarded<R: Threads + Wait + Clock + Sync, M: Write + Send>(
     rt: &R,
     alloc: Global,
     config: &Config,

@@ -43,7 +43,7 @@ const EXPLAIN: &str = "--explain";
 /// With `forward --capture`, the frames of captures are forwarded, and then those of the script of `input`, unless `input`
 /// is a terminal, as `is_terminal` says, or one of the captures. The frames that leave a port also go to the files of `--wire-capture`; if one is standard output, its
 /// capture replaces the page on `output`, and the counts go to `screen`. `screen` is a second handle to standard error,
-/// where `forward --progress` and `schedules --cover` show their progress.
+/// where `forward --progress` and `schedules --cover` show their progress, and `forward --rate` its rate.
 ///
 /// With the word `--explain`, or if `screen` is a terminal, a second line on `faults` explains a refusal, and
 /// `forward --turns` names on `screen` the flows that were cut before all their frames were offered.
@@ -120,7 +120,7 @@ fn forward<R: Host + Sync + Files, I: Read, W: Write, E: Write, M: Write + IsTer
     ensures done { result ≡ EXIT_SUCCESS → Keeps (E.contents faults.old) (E.contents faults.new) }
     ensures misused { result ≡ EXIT_USAGE → Keeps (W.contents output.old) (W.contents output.new) }
     ensures screen { (said : Config) (shown : Printing) (files : FileOptions) → SaysForward (map string_bytes words.now) said shown files
-        → printing.progress ≡ false → streamed_port files.wires ≡ None → files.reading.skip ≡ false → config.now.turns ≡ 0 → screen.new ≡ screen.old }
+        → printing.progress ≡ false → printing.rate ≡ false → streamed_port files.wires ≡ None → files.reading.skip ≡ false → config.now.turns ≡ 0 → screen.new ≡ screen.old }
     ensures ends { (said : Config) (shown : Printing) (files : FileOptions) → SaysForward (map string_bytes words.now) said shown files
         → EndsForwarding config.now (outlet printing files.wires) (intake_of files is_terminal) (I.remaining input.old) result (W.contents output.old) (W.contents output.new) }
     ensures unread { (said : Config) (shown : Printing) (files : FileOptions) → SaysForward (map string_bytes words.now) said shown files

@@ -1,4 +1,4 @@
-//! The command `forward`, its captures, and its progress.
+//! The command `forward`, its captures, its progress, and its rate.
 //!
 //! Most tests are tables whose rows give a run and its expected output. `crate::tests::told`, `captured` and
 //! `crate::tests::failing` check them.
@@ -15,6 +15,7 @@ mod from_tests;
 mod helped;
 mod live_tests;
 mod port_tests;
+mod rate_tests;
 mod reading_tests;
 mod shown_tests;
 mod stream_tests;

@@ -34,6 +34,7 @@ const LINES: &[&str] = &[
     "--quiet",
     "--json",
     "--progress",
+    "--rate",
     "echo '0 0 fill 14 05' | poll82599 forward\n",
     "prints 1 0 0506050505050505050505050505\n",
 ];
@@ -47,6 +48,7 @@ const WRONG: &[(&[&str], &str)] = &[
     (&["forward", "--retry"], "--retry"),
     (&["forward", "script"], "script"),
     (&["forward", "--progress=1"], "--progress"),
+    (&["forward", "--rate", "--rate"], "--rate"),
 ];
 
 /// Each refusal of a forwarding, and its line.

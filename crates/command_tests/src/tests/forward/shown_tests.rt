@@ -87,6 +87,7 @@ fn with_progress_the_output_is_the_same(rt: HostRuntime) {
 /// Words with a faulty script, and mistaken words, with the end of the error.
 const EXIT_REFUSED: &[(&[&str], &str)] = &[
     (&["forward", "--progress"], "line 1: refused 71 fields\n"),
+    (&["forward", "--rate"], "line 1: refused 71 fields\n"),
     (&["forward", "--pairs", "--progress"], "\n"),
 ];
 

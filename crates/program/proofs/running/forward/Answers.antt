@@ -17,9 +17,9 @@ returns-in-Ok-clause-ends g c = λ said shown files says.
     (record { script = c.answer.ensures.forward; captured = c.answer.ensures.captured; refused = c.answer.ensures.refused })
 
 pub returns-in-Ok-clause-screen : goal.returns-in-Ok-clause-screen
-returns-in-Ok-clause-screen g c = λ said shown files says unshown whole unskipped uncut.
+returns-in-Ok-clause-screen g c = λ said shown files says unshown unrated whole unskipped uncut.
     let held = c.in-Ok.ensures said shown files says in
-    c.answer.ensures.screen unshown (subst (λ (ws : List PortFile). streamed_port ws ≡ None) (sym (c.as_slice-in-Ok.ensures.value ∙ held.1)) whole)
+    c.answer.ensures.screen unshown unrated (subst (λ (ws : List PortFile). streamed_port ws ≡ None) (sym (c.as_slice-in-Ok.ensures.value ∙ held.1)) whole)
     (ap (λ (r : ReadOptions). r.skip) held.2 ∙ unskipped) uncut
 
 pub returns-in-Ok-clause-unread : goal.returns-in-Ok-clause-unread

@@ -58,7 +58,7 @@ pub returns-in-Ok-Forward-clause-screen : goal.returns-in-Ok-Forward-clause-scre
 returns-in-Ok-Forward-clause-screen g c unshown =
     let asks = c.in-Ok-Forward.ensures in
     let dark = unshown-forward _ c.in-Ok-Forward.field-0 c.in-Ok-Forward.config c.in-Ok-Forward.printing c.in-Ok-Forward.field-0-is asks.said asks.misuse unshown in
-    c.forward.ensures.screen dark.config dark.printing dark.files dark.says dark.no_progress dark.no_stream dark.no_skip dark.no_turns
+    c.forward.ensures.screen dark.config dark.printing dark.files dark.says dark.no_progress dark.no_rate dark.no_stream dark.no_skip dark.no_turns
 
 pub returns-in-Ok-Cover-clause-screen : goal.returns-in-Ok-Cover-clause-screen
 returns-in-Ok-Cover-clause-screen g c unshown =

@@ -1,0 +1,105 @@
+//! The line of `--rate`.
+
+use crate::tests::forward::forty::{forty, forty_words};
+use crate::tests::runs::{Host, outcome_of};
+use crate::tests::wanted::same;
+use program::RateLine;
+use std::alloc::Global;
+use std::process::Abort;
+
+/// A line, and its text.
+type RateRow = (RateLine, &'static str);
+
+const WORDS: RateLine = RateLine {
+    json: false,
+    frames: 3,
+    bytes: 42,
+    nanos: 123_000,
+};
+
+const OBJECT: RateLine = RateLine {
+    json: true,
+    frames: 1_000_000,
+    bytes: 60_000_000,
+    nanos: 2_500_000_999,
+};
+
+/// No time counts as a nanosecond.
+const AT_ONCE: RateLine = RateLine {
+    json: false,
+    frames: 1,
+    bytes: 14,
+    nanos: 0,
+};
+
+/// Products that exceed a `u64` are its greatest number.
+const MOST: RateLine = RateLine {
+    json: false,
+    frames: u64::MAX,
+    bytes: u64::MAX,
+    nanos: u64::MAX,
+};
+
+const TEXTS: &[RateRow] = &[
+    (
+        WORDS,
+        "rate frames 3 bytes 42 seconds 0.000123 mpps 0.024 gbps 0.002",
+    ),
+    (
+        OBJECT,
+        "{\"frames\":1000000,\"bytes\":60000000,\"seconds\":2.500000,\"mpps\":0.399,\"gbps\":0.191}",
+    ),
+    (
+        AT_ONCE,
+        "rate frames 1 bytes 14 seconds 0.000000 mpps 1000.000 gbps 112.000",
+    ),
+    (
+        MOST,
+        "rate frames 18446744073709551615 bytes 18446744073709551615 seconds 18446744073.709551 mpps 0.001 gbps 0.001",
+    ),
+];
+
+/// The line has this text.
+fn has_text<R: Abort>(rt: &R, alloc: Global, (line, text): RateRow) {
+    let written = format!(in alloc; "{line}").expect(rt, "memory");
+    same(rt, written.as_str(), text);
+}
+
+#[test]
+fn each_line_has_its_text(rt: HostRuntime) {
+    for row in TEXTS {
+        has_text(&rt, rt.alloc(), *row);
+    }
+}
+
+/// The 40 frames of 60 bytes with these options and `--rate`: the output is the one without `--rate`, and so is what is
+/// shown, with one more line that begins with this.
+fn shows<R: Host>(rt: &R, alloc: Global, options: &[&str], script: &[u8], first: &str) {
+    let mut words = forty_words(alloc, options).expect(rt, "memory");
+    let dark = outcome_of(rt, alloc, words.as_slice(), script);
+    words.push("--rate").expect(rt, "memory");
+    let told = outcome_of(rt, alloc, words.as_slice(), script);
+    let line = told.shown().strip_prefix(dark.shown()).unwrap_or("");
+    let is_one = line.starts_with(first) && line.find('\n') == line.len().checked_sub(1);
+    same(rt, (told.shown(), is_one), (told.shown(), true));
+    same(rt, (told.status, told.faults()), (0, ""));
+    same(rt, told.output.as_slice(), dark.output.as_slice());
+}
+
+const SHOWN: &[(&[&str], &str)] = &[
+    (&[], "rate frames 40 bytes 2400 seconds "),
+    (&["--quiet"], "rate frames 40 bytes 2400 seconds "),
+    (
+        &["--wire-capture", "1=-"],
+        "rate frames 40 bytes 2400 seconds ",
+    ),
+    (&["--json"], "{\"frames\":40,\"bytes\":2400,\"seconds\":"),
+];
+
+#[test]
+fn with_rate_the_output_is_the_same(rt: HostRuntime) {
+    let script = forty(rt.alloc()).expect(&rt, "memory");
+    for (options, first) in SHOWN {
+        shows(&rt, rt.alloc(), options, script.as_bytes(), first);
+    }
+}
