@@ -44,11 +44,12 @@ impl Restraint {
         self.spins = (2 * self.spins + 1).min(MOST_SPINS);
     }
 
-    /// Counts a round with much work.
+    /// Halves the next wait, after a round with much work.
     pub fn ease(&mut self) {
         self.spins /= 2;
     }
 
+    /// Ends the waiting, after a round without work.
     pub fn reset(&mut self) {
         self.spins = 0;
     }
