@@ -7,7 +7,7 @@ use Rattle.limits.specs.declared.profile.TheConstants.{MOST_BATCH}
 use Rattle.ring_model.specs.declared.states.Completion.TheVariants.{Status}
 use Rattle.wire_script.specs.Frame.{Frame}
 use Rattle.settings.specs.declared.config.Config.{Config}
-use Rattle.settings.specs.declared.config.TheConstants.{LEAST_SHARE}
+use Rattle.settings.specs.declared.config.TheConstants.{LEAST_SHARE, MOST_REPEAT}
 
 abbrev pub default_config : Config
 default_config = record {
@@ -21,6 +21,8 @@ default_config = record {
   retry = true;
   workers = 1;
   turns = 0;
+  repeat = 1;
+  keep = true;
   completion = Status;
 }
 
@@ -41,6 +43,7 @@ pub record HasLawfulWork (c : Config) : Type 0 where
   pub batch : (1 ≤ c.batch) × (c.batch ≤ MOST_BATCH)
   pub rs_every : (1 ≤ c.rs_every) × (c.rs_every ≤ MOST_RS_EVERY)
   pub workers : (1 ≤ c.workers) × (c.workers ≤ 2 * c.pairs)
+  pub repeat : (1 ≤ c.repeat) × (c.repeat ≤ MOST_REPEAT)
 
 -- Each number is within its limits.
 abbrev pub IsLawful : Config → Type 0

@@ -13,6 +13,11 @@ pub const LEAST_SHARE: u32 = 16;
 
 const _: () = prove!(LEAST_SHARE == 16);
 
+/// The maximum number of times that the frames of a script are offered.
+pub const MOST_REPEAT: u32 = 1_000_000;
+
+const _: () = prove!(MOST_REPEAT == 1_000_000);
+
 /// The configuration of a forwarder. [`Config::default`] is lawful.
 #[derive(Clone, Copy, PartialEq, Eq)]
 pub struct Config {
@@ -36,6 +41,10 @@ pub struct Config {
     pub workers: u32,
     /// The number of turns of its driver after which a flow is cut; 0 for never.
     pub turns: u32,
+    /// How many times the frames of the script are offered, 1 to 1,000,000.
+    pub repeat: u32,
+    /// Whether the frames that were sent are kept on the wires of the report; otherwise they are only counted.
+    pub keep: bool,
     /// How a controller reports sent frames.
     pub completion: Completion,
 }
@@ -65,8 +74,8 @@ impl fmt::Debug for Config {
         )?;
         write!(
             f,
-            "drop_en: {}, retry: {}, workers: {}, turns: {}, completion: {completion} }}",
-            self.drop_en, self.retry, self.workers, self.turns
+            "drop_en: {}, retry: {}, workers: {}, turns: {}, repeat: {}, keep: {}, completion: {completion} }}",
+            self.drop_en, self.retry, self.workers, self.turns, self.repeat, self.keep
         )
     }
 }
@@ -84,6 +93,8 @@ impl Config {
         retry: true,
         workers: 1,
         turns: 0,
+        repeat: 1,
+        keep: true,
         completion: Completion::Status,
     };
 

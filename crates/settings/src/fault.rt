@@ -3,7 +3,7 @@ ghost use Rattle.std.specs.Prelude.{◌≡◌, ◌↔◌, None, IfSome};
 ghost use Rattle.settings.specs.ConfigFaults.{IsFault};
 ghost use Rattle.settings.specs.Configs.{FitsIn, HasLawfulBuffers, HasLawfulQueues, HasLawfulWork, HasQueues, IsLawful};
 
-use crate::config::{Config, LEAST_SHARE};
+use crate::config::{Config, LEAST_SHARE, MOST_REPEAT};
 use limits::{
     FEWEST_BUFFERS, MOST_BATCH, MOST_BUFFERS, MOST_PAIRS, MOST_RS_EVERY, is_fill_size,
     is_ring_length,
@@ -29,6 +29,8 @@ pub enum ConfigFault {
     RsEvery,
     /// `workers` is not 1 to `2 * pairs`.
     Workers,
+    /// `repeat` is not 1 to 1,000,000.
+    Repeat,
     /// The frame at this place of the script, counted from 0, is for a queue that does not exist.
     Queue(usize),
 }
@@ -88,6 +90,8 @@ impl Config {
             Some(ConfigFault::RsEvery)
         } else if self.workers < 1 || 2 * self.pairs < self.workers {
             Some(ConfigFault::Workers)
+        } else if self.repeat < 1 || MOST_REPEAT < self.repeat {
+            Some(ConfigFault::Repeat)
         } else {
             None
         }

@@ -12,7 +12,7 @@ mod fault;
 mod plan;
 mod thresholds;
 
-pub use config::{Config, LEAST_SHARE};
+pub use config::{Config, LEAST_SHARE, MOST_REPEAT};
 pub use fault::ConfigFault;
 pub use plan::SchedulePlan;
 pub use refusals::ForwardError;
