@@ -9,7 +9,7 @@ _poll82599() {
         once) words='--explain --help' ;;
         decode) words='--explain --help rx tx read back' ;;
         replay) words='--ring --pairs --off --head --lists --json --registers --picture --page --explain --help' ;;
-        forward) words='--pairs --ring --buffers --bsize --batch --rs-every --workers --turns --drop --no-retry --head --quiet --json --progress --rate --capture --skip --limit --wire-capture --explain --help' ;;
+        forward) words='--pairs --ring --buffers --bsize --batch --rs-every --workers --turns --repeat --drop --no-retry --head --quiet --json --progress --rate --capture --skip --limit --wire-capture --explain --help' ;;
         from-capture) words='--skip --limit --explain --help' ;;
         to-capture) words='--explain --help' ;;
         schedules) words='--seed --moves --count --ring --pairs --off --head --refused --expect --json --registers --page --device-only-real --cover --driver --recommended --explain --help' ;;

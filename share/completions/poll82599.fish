@@ -30,6 +30,7 @@ complete -c poll82599 -n '__fish_seen_subcommand_from forward' -l batch -x -d 'M
 complete -c poll82599 -n '__fish_seen_subcommand_from forward' -l rs-every -x -d 'Frames per transmit report that a driver requests, 1 to 4,096 [default: 32]'
 complete -c poll82599 -n '__fish_seen_subcommand_from forward' -l workers -x -d 'Driver threads, and as many controller threads, 1 to twice the number of queue pairs [default: 1]'
 complete -c poll82599 -n '__fish_seen_subcommand_from forward' -l turns -x -d 'Cut a flow after this many turns of its driver, 0 to 4,294,967,295; 0 means never [default: 0]'
+complete -c poll82599 -n '__fish_seen_subcommand_from forward' -l repeat -x -d 'Offer the frames this many times, 1 to 1,000,000 [default: 1]'
 complete -c poll82599 -n '__fish_seen_subcommand_from forward' -l drop -d 'Drop frames that find too few free receive descriptors (default: hold them)'
 complete -c poll82599 -n '__fish_seen_subcommand_from forward' -l no-retry -d 'Drop packets that do not fit into the transmit ring (default: keep them)'
 complete -c poll82599 -n '__fish_seen_subcommand_from forward' -l head -d 'Report transmitted descriptors by head write-back (default: by DD in the descriptors)'

@@ -52,6 +52,7 @@ options words config printing files says =
     ∷ number (codes "rs-every") 4294967295 (codes "32" ∷ []) (said_of _ _ _ _ _ says.says_rs_every)
     ∷ number (codes "workers") 4294967295 (codes "1" ∷ []) (said_of _ _ _ _ _ says.says_workers)
     ∷ number (codes "turns") 4294967295 (codes "0" ∷ []) (said_of _ _ _ _ _ says.says_turns)
+    ∷ number (codes "repeat") 4294967295 (codes "1" ∷ []) (said_of _ _ _ _ _ says.says_repeat)
     ∷ plain_options config printing says.explained files
 
 is_command : (rings formats : Choices) → IsCommand rings formats (codes "forward") shape
@@ -71,6 +72,7 @@ record ParsedCommand (words : List Text) (config : Config) (printing : Printing)
   rs_every : IsSaid (codes "rs-every") 4294967295 (codes "32") says.rs_every config.rs_every (said_of _ _ _ _ _ says.says_rs_every)
   workers : IsSaid (codes "workers") 4294967295 (codes "1") says.workers config.workers (said_of _ _ _ _ _ says.says_workers)
   turns : IsSaid (codes "turns") 4294967295 (codes "0") says.turns config.turns (said_of _ _ _ _ _ says.says_turns)
+  repeat : IsSaid (codes "repeat") 4294967295 (codes "1") says.repeat config.repeat (said_of _ _ _ _ _ says.says_repeat)
 
 saying : (words : List Text) (config : Config) (printing : Printing) (files : FileOptions) (says : SaysForward words config printing files) → ParsedCommand words config printing files says
 unfolding digits
@@ -83,6 +85,7 @@ saying words config printing files says = record {
   rs_every = is_said (codes "rs-every") 4294967295 32 (codes "32") says.rs_every config.rs_every (omega arith) (omega arith) refl says.says_rs_every;
   workers = is_said (codes "workers") 4294967295 1 (codes "1") says.workers config.workers (omega arith) (omega arith) refl says.says_workers;
   turns = is_said (codes "turns") 4294967295 0 (codes "0") says.turns config.turns (omega arith) (omega arith) refl says.says_turns;
+  repeat = is_said (codes "repeat") 4294967295 1 (codes "1") says.repeat config.repeat (omega arith) (omega arith) refl says.says_repeat;
 }
 
 -- a port is no hyphen, and begins the word of a file
@@ -104,7 +107,7 @@ wires_plain (w ∷ ws) are =
 are_lawful : (words : List Text) (config : Config) (printing : Printing) (files : FileOptions) (says : SaysForward words config printing files) → AreLawful (options words config printing files says)
 are_lawful words config printing files says =
     let are = saying words config printing files says in
-    (are.pairs.lawful, (are.ring.lawful, (are.buffers.lawful, (are.bsize.lawful, (are.batch.lawful, (are.rs_every.lawful, (are.workers.lawful, (are.turns.lawful, (tt, (tt, (tt, (tt, (tt, (tt, (tt, (tt, (sources_plain files.sources says.are_files.sources, (tt, (limit_lawful files.reading.limit says.are_files.limit, (wires_plain files.wires says.are_files.wires, tt))))))))))))))))))))
+    (are.pairs.lawful, (are.ring.lawful, (are.buffers.lawful, (are.bsize.lawful, (are.batch.lawful, (are.rs_every.lawful, (are.workers.lawful, (are.turns.lawful, (are.repeat.lawful, (tt, (tt, (tt, (tt, (tt, (tt, (tt, (tt, (sources_plain files.sources says.are_files.sources, (tt, (limit_lawful files.reading.limit says.are_files.limit, (wires_plain files.wires says.are_files.wires, tt)))))))))))))))))))))
 
 words_are : (words : List Text) (config : Config) (printing : Printing) (files : FileOptions) (says : SaysForward words config printing files) → words ≡ codes "forward" ∷ all_words (options words config printing files says)
 words_are words config printing files says =
@@ -120,7 +123,8 @@ words_are words config printing files says =
     says.words_are
     ∙ ap (λ (a : List Text). codes "forward" ∷ a)
     (both _ _ _ _ are.pairs.words_are (both _ _ _ _ are.ring.words_are (both _ _ _ _ are.buffers.words_are (both _ _ _ _ are.bsize.words_are
-    (both _ _ _ _ are.batch.words_are (both _ _ _ _ are.rs_every.words_are (both _ _ _ _ are.workers.words_are (ap₂ (λ (a b : List Text). a ++ flags b) are.turns.words_are (limit_words_are files.reading.limit)))))))))
+    (both _ _ _ _ are.batch.words_are (both _ _ _ _ are.rs_every.words_are (both _ _ _ _ are.workers.words_are (both _ _ _ _ are.turns.words_are
+    (ap₂ (λ (a b : List Text). a ++ flags b) are.repeat.words_are (limit_words_are files.reading.limit))))))))))
 
 -- ---- what clap makes of them
 
@@ -145,30 +149,32 @@ forward_found app words config printing files program says =
         rs_every = record { value = found.2 5 none (omega arith) ∙ are.rs_every.value; fits = are.rs_every.fits };
         workers = record { value = found.2 6 none (omega arith) ∙ are.workers.value; fits = are.workers.fits };
         turns = record { value = found.2 7 none (omega arith) ∙ are.turns.value; fits = are.turns.fits };
-        drop = found.2 8 none (omega arith);
-        no_retry = found.2 9 none (omega arith);
-        head = found.2 10 none (omega arith);
+        repeat = record { value = found.2 8 none (omega arith) ∙ are.repeat.value; fits = are.repeat.fits };
+        drop = found.2 9 none (omega arith);
+        no_retry = found.2 10 none (omega arith);
+        head = found.2 11 none (omega arith);
+        keeps = says.keeps;
       },
       record {
-        quiet = found.2 11 none (omega arith);
-        json = found.2 12 none (omega arith);
-        progress = found.2 13 none (omega arith);
-        rate = found.2 14 none (omega arith);
+        quiet = found.2 12 none (omega arith);
+        json = found.2 13 none (omega arith);
+        progress = found.2 14 none (omega arith);
+        rate = found.2 15 none (omega arith);
       },
       record {
-        sources = found.2 16 none (omega arith);
+        sources = found.2 17 none (omega arith);
         reading = record {
-          skip = found.2 17 none (omega arith);
-          limit = found.2 18 none (omega arith) ∙ limit_value files.reading.limit says.are_files.limit;
+          skip = found.2 18 none (omega arith);
+          limit = found.2 19 none (omega arith) ∙ limit_value files.reading.limit says.are_files.limit;
           fits = says.are_files.limit;
         };
-        wires = found.2 19 none (omega arith);
+        wires = found.2 20 none (omega arith);
       },
     )
 
 -- a configuration, from its parts
-pub config_is : (config : Config) (p r b z a e w t : ℕ) (d y : Bool) (c : Completion) → p ≡ config.pairs → r ≡ config.ring → b ≡ config.buffers → z ≡ config.bsize
-    → a ≡ config.batch → e ≡ config.rs_every → w ≡ config.workers → t ≡ config.turns → d ≡ config.drop_en → y ≡ config.retry → c ≡ config.completion
-    → ◌≡◌ {A = Config} (record { pairs = p; ring = r; batch = a; buffers = b; bsize = z; rs_every = e; drop_en = d; retry = y; workers = w; turns = t; completion = c }) config
-config_is config p r b z a e w t d y c pairs_are ring_is buffers_are bsize_is batch_is rs_every_is workers_are turns_are drop_is retry_is completion_is =
-    rw (pairs_are, ring_is, buffers_are, bsize_is, batch_is, rs_every_is, workers_are, turns_are, drop_is, retry_is, completion_is) refl
+pub config_is : (config : Config) (p r b z a e w t n : ℕ) (d y k : Bool) (c : Completion) → p ≡ config.pairs → r ≡ config.ring → b ≡ config.buffers → z ≡ config.bsize
+    → a ≡ config.batch → e ≡ config.rs_every → w ≡ config.workers → t ≡ config.turns → n ≡ config.repeat → d ≡ config.drop_en → y ≡ config.retry → c ≡ config.completion
+    → k ≡ config.keep → ◌≡◌ {A = Config} (record { pairs = p; ring = r; batch = a; buffers = b; bsize = z; rs_every = e; drop_en = d; retry = y; workers = w; turns = t; repeat = n; keep = k; completion = c }) config
+config_is config p r b z a e w t n d y k c pairs_are ring_is buffers_are bsize_is batch_is rs_every_is workers_are turns_are repeat_is drop_is retry_is completion_is keep_is =
+    rw (pairs_are, ring_is, buffers_are, bsize_is, batch_is, rs_every_is, workers_are, turns_are, repeat_is, drop_is, retry_is, completion_is, keep_is) refl

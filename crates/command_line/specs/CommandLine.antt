@@ -68,6 +68,7 @@ forward_app = with_rules (codes "forward") (number_rule (codes "pairs") (codes "
     ∷ number_rule (codes "rs-every") (codes "32")
     ∷ number_rule (codes "workers") (codes "1")
     ∷ number_rule (codes "turns") (codes "0")
+    ∷ number_rule (codes "repeat") (codes "1")
     ∷ flag_rule (codes "drop")
     ∷ flag_rule (codes "no-retry")
     ∷ flag_rule (codes "head")
@@ -153,7 +154,8 @@ pub record SaysReplay (words : List Text) (plan : QueuePlan) : Type 0 where
 -- the words are `forward` and its options in this order: `--drop` if frames are dropped, `--no-retry` if packets are,
 -- `--head` if the transmit queues report by a head word, `--quiet` if no wire is printed, `--json` if the counts are
 -- objects, `--progress` if progress is shown, `--rate` if the rate is, and `--explain` if a refusal is explained; then `--capture` for each
--- source, `--skip` if faulty records of captures are left out, `--limit` if their frames are limited, and `--wire-capture` for each wire file
+-- source, `--skip` if faulty records of captures are left out, `--limit` if their frames are limited, and `--wire-capture` for each wire file;
+-- the frames that were sent are kept
 pub record SaysForward (words : List Text) (config : Config) (printing : Printing) (files : FileOptions) : Type 0 where
   pub pairs : List Text
   pub ring : List Text
@@ -163,6 +165,7 @@ pub record SaysForward (words : List Text) (config : Config) (printing : Printin
   pub rs_every : List Text
   pub workers : List Text
   pub turns : List Text
+  pub repeat : List Text
   pub explained : Bool
   pub says_pairs : SaysNumber (codes "--pairs") 1 pairs config.pairs
   pub says_ring : SaysNumber (codes "--ring") 512 ring config.ring
@@ -172,14 +175,16 @@ pub record SaysForward (words : List Text) (config : Config) (printing : Printin
   pub says_rs_every : SaysNumber (codes "--rs-every") 32 rs_every config.rs_every
   pub says_workers : SaysNumber (codes "--workers") 1 workers config.workers
   pub says_turns : SaysNumber (codes "--turns") 0 turns config.turns
-  pub words_are : words ≡ codes "forward" ∷ (pairs ++ (ring ++ (buffers ++ (bsize ++ (batch ++ (rs_every ++ (workers ++ (turns
+  pub says_repeat : SaysNumber (codes "--repeat") 1 repeat config.repeat
+  pub words_are : words ≡ codes "forward" ∷ (pairs ++ (ring ++ (buffers ++ (bsize ++ (batch ++ (rs_every ++ (workers ++ (turns ++ (repeat
       ++ (flag_words (codes "--drop") config.drop_en ++ (flag_words (codes "--no-retry") (not config.retry)
       ++ (flag_words (codes "--head") (is_head config.completion)
       ++ (flag_words (codes "--quiet") printing.quiet
       ++ (flag_words (codes "--json") printing.json
       ++ (flag_words (codes "--progress") printing.progress
       ++ (flag_words (codes "--rate") printing.rate
-      ++ (explain_words explained ++ words_of_files files))))))))))))))))
+      ++ (explain_words explained ++ words_of_files files)))))))))))))))))
+  pub keeps : config.keep ≡ true
   pub are_files : AreFiles files
 
 -- the values of the arguments
@@ -205,9 +210,11 @@ pub record HasForward (rows : List Row) (config : Config) : Type 0 where
   pub rs_every : HasNumber rows (codes "rs-every") config.rs_every
   pub workers : HasNumber rows (codes "workers") config.workers
   pub turns : HasNumber rows (codes "turns") config.turns
+  pub repeat : HasNumber rows (codes "repeat") config.repeat
   pub drop : HasFlag rows (codes "drop") config.drop_en
   pub no_retry : HasFlag rows (codes "no-retry") (not config.retry)
   pub head : HasFlag rows (codes "head") (is_head config.completion)
+  pub keeps : config.keep ≡ true
 
 pub record HasPrinting (rows : List Row) (printing : Printing) : Type 0 where
   pub quiet : HasFlag rows (codes "quiet") printing.quiet

@@ -230,6 +230,7 @@ fn config_in<'a>(forward: &ArgMatches<'a>) -> Option<Config>
     let rs_every = number_in(forward, "rs-every")?;
     let workers = number_in(forward, "workers")?;
     let turns = number_in(forward, "turns")?;
+    let repeat = number_in(forward, "repeat")?;
     let drop_en = flag_in(forward, "drop");
     let retry = !flag_in(forward, "no-retry");
     let completion = completion_in(forward);
@@ -244,7 +245,9 @@ fn config_in<'a>(forward: &ArgMatches<'a>) -> Option<Config>
         retry,
         workers,
         turns,
+        repeat,
         completion,
+        ..Config::DEFAULT
     })
 }
 

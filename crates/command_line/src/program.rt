@@ -168,6 +168,11 @@ const SECOND: &[CommandEntry] = &[
                 default: "0",
                 help: "Cut a flow after this many turns of its driver, 0 to 4,294,967,295; 0 means never",
             },
+            Param::Number {
+                id: "repeat",
+                default: "1",
+                help: "Offer the frames this many times, 1 to 1,000,000",
+            },
             Param::Flag {
                 id: "drop",
                 help: "Drop frames that find too few free receive descriptors (default: hold them)",
