@@ -110,6 +110,11 @@ const BROKEN: &[Config] = &[
         workers: 17,
         ..GREATEST
     },
+    Config { repeat: 0, ..LEAST },
+    Config {
+        repeat: 1_000_001,
+        ..GREATEST
+    },
 ];
 
 /// How many of these are refused before anything is done, up to the first that is not.
@@ -149,13 +154,19 @@ fn fitting(script: &Script, configs: &[Config]) -> usize {
     count
 }
 
-const EDGES: &[Config] = &[LEAST, Config::DEFAULT, GREATEST];
+/// The greatest lawful numbers, including `repeat`.
+const REPEATED: Config = Config {
+    repeat: 1_000_000,
+    ..GREATEST
+};
+
+const EDGES: &[Config] = &[LEAST, Config::DEFAULT, GREATEST, REPEATED];
 
 #[test]
 fn the_edges_are_lawful(rt: HostRuntime) {
     let script = script_of(&rt, rt.alloc(), &[]);
     holds(&rt, Config::default() == Config::DEFAULT);
-    same(&rt, fitting(&script, EDGES), 3);
+    same(&rt, fitting(&script, EDGES), 4);
 }
 
 /// Ten frames for port 1, queue 0.
@@ -256,6 +267,8 @@ const DISTINCT: Config = Config {
     retry: false,
     workers: 3,
     turns: 9,
+    repeat: 6,
+    keep: false,
     ..Config::DEFAULT
 };
 
@@ -266,7 +279,8 @@ fn debug_texts_name_each_number(rt: HostRuntime) {
         &rt,
         text.as_str(),
         "Config { pairs: 2, ring: 64, batch: 7, buffers: 4000, bsize: 1024, rs_every: 5, \
-         drop_en: true, retry: false, workers: 3, turns: 9, completion: Status }",
+         drop_en: true, retry: false, workers: 3, turns: 9, repeat: 6, keep: false, \
+         completion: Status }",
     );
     let script = script_of(&rt, rt.alloc(), TEN);
     let config = Config::DEFAULT;

@@ -96,6 +96,8 @@ pub const NO_CONFIGS: &[(&str, &str)] = &[
     ("--rs-every", "4097"),
     ("--workers", "0"),
     ("--workers", "3"),
+    ("--repeat", "0"),
+    ("--repeat", "1000001"),
 ];
 
 /// Scripts that are refused.

@@ -30,6 +30,8 @@ const LINES: &[&str] = &[
     "[default: 1]",
     "--turns <N>",
     "[default: 0]",
+    "--repeat <N>",
+    "1 to 1,000,000 [default: 1]",
     "--head",
     "--quiet",
     "--json",
