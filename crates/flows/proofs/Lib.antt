@@ -1,6 +1,8 @@
 pub mod Sent
 pub mod Dealing
 pub mod Choosing
+pub mod Rounds
+pub mod Counted
 pub mod Pieces
 pub mod Meets
 pub mod Offers

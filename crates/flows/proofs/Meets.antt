@@ -1,5 +1,5 @@
 -- What follows for a flow once both its rings' ends met.
-use Rattle.std.proofs.Common.{◌≡◌, ◌∙◌, ℕ, ◌+◌, ◌≤◌, Bool, true, false, List, [], length, map, take, ap, sym, refl, subst, arith, if◌then◌else◌, ⊎_elim, ◌⊎◌, ◌<◌}
+use Rattle.std.proofs.Common.{◌≡◌, ◌∙◌, ℕ, ◌+◌, ◌-◌, ◌^◌, ◌≤◌, Bool, true, false, List, [], length, map, take, ap, sym, refl, subst, arith, if◌then◌else◌, ⊎_elim, ◌⊎◌, ◌<◌}
 use Rattle.std.specs.Prelude.{◌&&◌, Option, Some, sum_by}
 use Rattle.std.proofs.lemmas.Bool.{false≢true}
 use Rattle.std.proofs.lemmas.List.{length-map, take-append-drop, take_all}
@@ -30,8 +30,9 @@ use Rattle.flows.specs.Outputs.{AreCut, Chosen, fitting, oversized}
 use Rattle.counters.specs.Kinds.{most_exact}
 use Rattle.flows.specs.Driven.{AreExact, AreFull, HasDriven, HasDrained, EndedAs, taken_frames, posted_frames}
 use Rattle.flows.specs.Keys.{DriverKey, ControllerKey, Plan, plan_of}
-use Rattle.flows.specs.Reports.{AreLedgers, IsDrained, IsFull, IsReport}
+use Rattle.flows.specs.Reports.{AreLedgers, IsDrained, IsFull, IsReport, WentOut}
 use Rattle.flows.specs.Served.{HasServed}
+use Rattle.flows.proofs.Counted.{few-sent, shown-few}
 use Rattle.flows.proofs.Choosing.{chosen-front, chosen-beginning, chosen-of-more, chosen-through, chosen-few, chosen-all, chosen-map}
 
 and-false : (a b : Bool) → b ≡ false → (a && b) ≡ false
@@ -97,11 +98,21 @@ module _ (dk : DriverKey) (ck : ControllerKey) (from to : TableId) (d : DriverDo
   relayed : Chosen (posted_frames d.tx) (map touch (taken_frames d.rx))
   relayed = chosen-front (posted_frames d.tx) driven.waiting (map touch (taken_frames d.rx)) driven.relayed.chosen
 
-  output : Chosen s.wire (map touch ck.input.frames)
-  output = subst (λ (w : List Bytes). Chosen w (map touch ck.input.frames)) (sym served.wire)
-      (chosen-beginning sent_frames (posted_frames d.tx) (map touch ck.input.frames) sent_first
+  output : Chosen sent_frames (map touch ck.input.frames)
+  output = chosen-beginning sent_frames (posted_frames d.tx) (map touch ck.input.frames) sent_first
       (chosen-through (posted_frames d.tx) (map touch (taken_frames d.rx)) (map touch ck.input.frames) relayed
-      (chosen-map touch (taken_frames d.rx) ck.input.frames (chosen-beginning (taken_frames d.rx) stored_frames ck.input.frames taken_first from_script))))
+      (chosen-map touch (taken_frames d.rx) ck.input.frames (chosen-beginning (taken_frames d.rx) stored_frames ck.input.frames taken_first from_script)))
+
+  few_sent : length sent_frames ≤ 2 ^ 64 - 1
+  few_sent = let a = chosen-few sent_frames (map touch ck.input.frames) output in let b = length-map ck.input.frames touch in let c = served.few_frames in omega (arith, a, b, c)
+
+  few_bytes : sum_by length sent_frames ≤ 2 ^ 64 - 1
+  few_bytes =
+      let a = few-sent sent_frames (posted_frames d.tx) (taken_frames d.rx) stored_frames sent_first relayed taken_first in
+      let b = served.bytes_are in let c = served.few_bytes in let e = served.few in let f = served.few_frames in omega (arith, a, b, c, e, f)
+
+  count : s.sent ≡ length sent_frames
+  count = served.sent.frames ∙ shown-few (length sent_frames) few_sent
 
   exact : AreExact d.rx d.tx d.counts (length driven.waiting)
   exact = exactly d.rx d.tx d.counts (length driven.waiting) few driven.relayed.counted
@@ -113,7 +124,10 @@ module _ (dk : DriverKey) (ck : ControllerKey) (from to : TableId) (d : DriverDo
   tx_left = told (transmitted.told_left d.tx) d.unsent (length (transmitted.sent_now d.tx s.tx)) (length (transmit.posted d.tx)) driven.unsent left_tx
 
   abbrev pub report : FlowReport
-  report = record { tally = s.tally; stored_bytes = s.stored_bytes; driven = d.counts; wire = s.wire; left = left; ended = d.ended }
+  report = record { tally = s.tally; stored_bytes = s.stored_bytes; driven = d.counts; wire = s.wire; sent = s.sent; sent_bytes = s.sent_bytes; left = left; ended = d.ended }
+
+  went_out : WentOut p report sent_frames
+  went_out = record { kept = served.sent.kept; unkept = served.sent.unkept; sent = count; sent_bytes = served.sent.bytes ∙ shown-few (sum_by length sent_frames) few_bytes }
 
   module _ (is : d.ended ≡ Drained) where
     has : HasDrained d.rx d.tx driven.waiting
@@ -134,7 +148,7 @@ module _ (dk : DriverKey) (ck : ControllerKey) (from to : TableId) (d : DriverDo
     is-drained : IsDrained p report
     is-drained =
         let counted = exact.all in
-        let wired = ap length served.wire ∙ ap length all_sent in
+        let wired = count ∙ ap length all_sent in
         let none_rx = ap length (drained has.drained) in
         let none_tx = ap length (all has.cleaned) in
         record {
@@ -145,16 +159,16 @@ module _ (dk : DriverKey) (ck : ControllerKey) (from to : TableId) (d : DriverDo
           none_left = omega (arith, rx_left, tx_left, none_rx, none_tx, left_is);
         }
 
-    -- with retries, all stored frames are on the wire
-    all-stored : p.retries ≡ true → s.wire ≡ map touch (frames piece_of (meeting.stored_now d.rx s.rx))
+    -- with retries, all stored frames went out
+    all-stored : p.retries ≡ true → sent_frames ≡ map touch (frames piece_of (meeting.stored_now d.rx s.rx))
     all-stored retries =
         let none = driven.relayed.retried retries in
         let counted = exact.all in let taken_count = exact.taken in let posted_count = exact.posted in
         let mapped = length-map (taken_frames d.rx) touch in
         let as_many : length (posted_frames d.tx) ≡ length (map touch (taken_frames d.rx)) = omega (arith, none, counted, waits, taken_count, posted_count, mapped) in
-        served.wire ∙ all_sent ∙ chosen-all (posted_frames d.tx) (map touch (taken_frames d.rx)) relayed as_many ∙ ap (map touch) (ap (frames piece_of) (drained has.drained))
+        all_sent ∙ chosen-all (posted_frames d.tx) (map touch (taken_frames d.rx)) relayed as_many ∙ ap (map touch) (ap (frames piece_of) (drained has.drained))
 
-    is-full : p.drops ≡ false → p.retries ≡ true → IsFull p report
+    is-full : p.drops ≡ false → p.retries ≡ true → IsFull p report sent_frames
     is-full holds retries =
         let whole : take served.next ck.input.frames ≡ ck.input.frames = take_all served.next ck.input.frames (omega (arith, all_offered)) in
         record {
@@ -164,7 +178,7 @@ module _ (dk : DriverKey) (ck : ControllerKey) (from to : TableId) (d : DriverDo
               ∙ ap (λ (l : List Bytes). map touch (fitting ck.input.from.slots ck.input.fill l)) whole ∙ ap (λ (t : TableId). map touch (fitting t.slots ck.input.fill ck.input.frames)) (s_from ∙ sym d_from);
         }
 
-  ledgers : AreLedgers p report
+  ledgers : AreLedgers p report sent_frames
   ledgers = record {
     received = meeting.ledger_of d.rx s.rx;
     sent = transmitted.ledger_of d.tx s.tx;
@@ -178,13 +192,15 @@ module _ (dk : DriverKey) (ck : ControllerKey) (from to : TableId) (d : DriverDo
     stored_bytes = served.bytes_are ∙ ap (λ (l : List (Segment Bytes)). sum_by length (frames piece_of l)) (sym stored_is);
     taken = exact.taken;
     posted = exact.posted;
-    wire = served.wire ∙ ap (frames carried) (sym sent_is);
+    went_out = ap (frames carried) (sym sent_is);
     left = omega (arith, rx_left, tx_left, left_is);
     all_stored = all-stored;
   }
 
   pub concluded : IsReport p report
   concluded = record {
+    went = sent_frames;
+    went_out = went_out;
     output = output;
     few_offered = subst (λ (k : ℕ). k ≤ length ck.input.frames) (sym served.offered) served.few;
     adds = served.adds;

@@ -1,9 +1,7 @@
 -- What the calls of a receive controller keep of a flow.
-use Rattle.std.proofs.Common.{◌≡◌, ◌∙◌, ℕ, zero, suc, ◌+◌, ◌<◌, ◌≤◌, ◌≢◌, Bool, true, false, cond, List, [], ◌∷◌, ◌++◌, length, take, get_or, ap, sym, refl, subst, arith, append-nil, length-append, if◌then◌else◌}
-use Rattle.std.specs.Prelude.{nat_lt, not, Ok, Some, slice_get}
+use Rattle.std.proofs.Common.{◌≡◌, ◌∙◌, ℕ, zero, suc, ◌+◌, ◌<◌, ◌≤◌, Bool, true, false, cond, List, [], ◌∷◌, ◌++◌, length, take, get_or, ap, sym, refl, subst, arith, append-nil, length-append, if◌then◌else◌}
+use Rattle.std.specs.Prelude.{nat_lt, not, Ok}
 use Rattle.std.proofs.lemmas.Bool.{lt-ltb, le-ltb, false≢true}
-use Rattle.std.proofs.Math.Arith.{lt_of_le-ne}
-use Rattle.std.proofs.lemmas.List.{length-map}
 use Rattle.std.proofs.lemmas.List.Elements.{filter_more}
 use Rattle.std.proofs.lemmas.List.Filters.{length-filter_more}
 use Rattle.atomic_table.specs.Seated.{TableId}
@@ -18,8 +16,7 @@ use Rattle.controller.specs.declared.offer.Offer.TheVariants.{Stored, Dropped, O
 use Rattle.controller.specs.Receiving.{Receiving, needed, Offered, WasStored, WasDropped, WasOversize, WasHeld, WasOff, frames_by}
 use Rattle.controller.specs.Tallying.{exact, most_count}
 use Rattle.flows.specs.Outputs.{AreCut, Chosen, fitting, oversized}
-use Rattle.wire_script.specs.Frame.{Frame}
-use Rattle.flows.specs.Keys.{Input, bytes_at, frames_at}
+use Rattle.flows.specs.Keys.{Input}
 use Rattle.flows.specs.declared.queue_phase.QueuePhase.{QueuePhase}
 use Rattle.flows.specs.declared.queue_phase.QueuePhase.TheVariants.{Waiting, Serving}
 use Rattle.flows.specs.Served.{OfferedSoFar, StandsAs, IsRxSource, rx_source, bytes_by, decides}
@@ -159,33 +156,6 @@ offers-none i old new f next Held o here f_is own ready w is = offers-held i old
 offers-none i old new f next Off o here f_is own ready w is = offers-off i old new f next o here f_is own ready w
 
 -- ---- the queue as its controller serves it
-
-pub read-at : {X : Type 0} (script : List X) (k : ℕ) (f e : X) → k < length script → f ≡ get_or script k e → slice_get script k ≡ Some f
-read-at [] k f e low is = absurd (omega (arith, low))
-read-at (x ∷ xs) zero f e low is = ap Some (sym is)
-read-at (x ∷ xs) (suc k) f e low is = read-at xs k f e (omega (arith, low)) is
-
--- the frame at a place of the script
-pub frame-at : (script : List Frame) (places : List ℕ) (next d : ℕ) (f : Frame) → next < length places → slice_get script (get_or places next d) ≡ Some f → get_or (frames_at script places) next f.bytes ≡ f.bytes
-frame-at script [] next d f low e = absurd (omega (arith, low))
-frame-at script (k ∷ ks) zero d f low e = ap bytes_at e
-frame-at script (k ∷ ks) (suc next) d f low e = frame-at script ks next d f (omega (arith, low)) e
-
--- where not all were decided, there is a next one
-pub some-left : (script : List Frame) (places : List ℕ) (next : ℕ) → next ≤ length (frames_at script places) → next ≢ length places → next < length places
-some-left script places next few more = lt_of_le-ne (let e = length-map places (λ k. bytes_at (slice_get script k)) in omega (arith, e, few)) more
-
-pub as-many : (script : List Frame) (places : List ℕ) (next : ℕ) → next < length places → next < length (frames_at script places)
-as-many script places next low = let e = length-map places (λ k. bytes_at (slice_get script k)) in omega (arith, e, low)
-
--- the next frame of the flow
-pub next-frame : (script : List Frame) (places : List ℕ) (next : ℕ) (f : Frame) → next < length places → slice_get script (get_or places next 0) ≡ Some f → slice_get (frames_at script places) next ≡ Some f.bytes
-next-frame script places next f low e = read-at (frames_at script places) next f.bytes f.bytes (as-many script places next low) (sym (frame-at script places next 0 f low e))
-
--- which is the one that was read at its place
-pub next-read : (script : List Frame) (places : List ℕ) (next : ℕ) (f : Frame) → next < length places → get_or places next 0 < length script
-    → f ≡ get_or script (get_or places next 0) f → slice_get (frames_at script places) next ≡ Some f.bytes
-next-read script places next f low within is = next-frame script places next f low (read-at script (get_or places next 0) f f within is)
 
 same-config : (c new : Receiving) (f : Bytes) (offer : Offer) → Offered c f (Ok offer) new → (new.bsize ≡ c.bsize) × (new.drop_en ≡ c.drop_en)
 same-config c new f Stored w = (ap (λ (r : Receiving). r.bsize) w.same, ap (λ (r : Receiving). r.drop_en) w.same)

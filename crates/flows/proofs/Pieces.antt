@@ -1,5 +1,5 @@
 -- The pieces and the bytes of the frames that a receive controller stores.
-use Rattle.std.proofs.Common.{◌≡◌, ◌∙◌, ◌⊎◌, inl, inr, ℕ, ◌+◌, ◌*◌, ◌≤◌, Bool, true, false, List, [], ◌∷◌, ◌++◌, length, map, ap, sym, refl, subst, arith, append-nil}
+use Rattle.std.proofs.Common.{◌≡◌, ◌∙◌, ◌⊎◌, inl, inr, ℕ, ◌+◌, ◌*◌, ◌≤◌, false, List, [], ◌∷◌, ◌++◌, length, map, ap, sym, refl, subst, arith, append-nil}
 use Rattle.std.specs.Prelude.{Ok, flat_map, sum_by}
 use Rattle.std.proofs.lemmas.Bool.{false≢true}
 use Rattle.std.proofs.lemmas.List.{map-append}
@@ -12,7 +12,7 @@ use Rattle.rx_ring.specs.Records.{RxControlled}
 use Rattle.rx_ring.specs.Ends.{ControllerSide, stored}
 use Rattle.controller.specs.declared.offer.Offer.{Offer}
 use Rattle.controller.specs.declared.offer.Offer.TheVariants.{Stored, Dropped, Oversize, Held, Off}
-use Rattle.controller.specs.Receiving.{Receiving, needed, Offered, KnewRoom, FoundRoom, WasStored, frames_by}
+use Rattle.controller.specs.Receiving.{Receiving, needed, Offered, KnewRoom, FoundRoom, frames_by}
 use Rattle.flows.specs.Outputs.{AreCut}
 use Rattle.flows.specs.Served.{bytes_by, decides}
 

@@ -1,5 +1,5 @@
 -- The identities of the two sides of a flow, which never change.
-use Rattle.std.specs.Prelude.{ℕ, Bool, List, [], map, Option, Some, None, slice_get}
+use Rattle.std.specs.Prelude.{ℕ, zero, suc, Bool, List, [], ◌++◌, map, Option, Some, None, slice_get}
 use Rattle.atomic_table.specs.Seated.{TableId}
 use Rattle.pool.specs.Owned.{Pooled}
 use Rattle.ring_model.specs.shared.Frames.{Bytes}
@@ -27,11 +27,12 @@ pub record Input : Type 0 where
   pub fill : ℕ
   pub drops : Bool
 
--- The controller's side: the flow's number, its input, and its output ring.
+-- The controller's side: the flow's number, its input, its output ring, and whether sent frames are kept.
 pub record ControllerKey : Type 0 where
   pub number : ℕ
   pub input : Input
   pub to : TableId
+  pub keeps : Bool
 
 -- The whole flow: its frames, its rings' length, and the settings of its two sides.
 pub record Plan : Type 0 where
@@ -42,9 +43,10 @@ pub record Plan : Type 0 where
   pub retries : Bool
   pub turns : ℕ
   pub stops : Bool
+  pub keeps : Bool
 
 abbrev pub plan_of : DriverKey → ControllerKey → Plan
-plan_of d c = record { frames = c.input.frames; size = d.from.slots; fill = c.input.fill; drops = c.input.drops; retries = d.retries; turns = d.turns; stops = d.stops }
+plan_of d c = record { frames = c.input.frames; size = d.from.slots; fill = c.input.fill; drops = c.input.drops; retries = d.retries; turns = d.turns; stops = d.stops; keeps = c.keeps }
 
 -- The frames at these places of a script, in order.
 abbrev pub bytes_at : Option Frame → Bytes
@@ -53,3 +55,8 @@ bytes_at (Some f) = f.bytes
 
 abbrev pub frames_at : List Frame → List ℕ → List Bytes
 frames_at script places = map (λ k. bytes_at (slice_get script k)) places
+
+-- A list this many times.
+abbrev pub repeated : {X : Type 0} → ℕ → List X → List X
+repeated zero xs = []
+repeated (suc n) xs = xs ++ repeated n xs

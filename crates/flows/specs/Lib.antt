@@ -1,5 +1,7 @@
 pub mod Outputs
 pub mod Keys
+pub mod Offering
+pub mod Sent
 pub mod Holding
 pub mod Driven
 pub mod Served

@@ -1,7 +1,7 @@
 -- The knowledge of the controller's side of a flow.
 use Rattle.std.specs.Prelude.{◌≡◌, ℕ, ◌*◌, ◌≤◌, Bool, false, true, List, [], length, sum_by, take}
 use Rattle.atomic_table.specs.Seated.{TableId}
-use Rattle.limits.specs.declared.profile.TheConstants.{MOST_FRAME, MOST_SCRIPT_FRAMES}
+use Rattle.limits.specs.declared.profile.TheConstants.{MOST_FRAME}
 use Rattle.ring_model.specs.shared.Frames.{Bytes, frames}
 use Rattle.ring_model.specs.shared.Handshakes.{is_serving}
 use Rattle.ring_model.specs.shared.Segments.{piece_of}
@@ -15,6 +15,9 @@ use Rattle.counters.specs.declared.tally.Tally.{Tally}
 use Rattle.counters.specs.Kinds.{AddsUp}
 use Rattle.flows.specs.Outputs.{AreCut, Chosen, fitting, oversized}
 use Rattle.flows.specs.Keys.{Input, ControllerKey}
+use Rattle.flows.specs.Sent.{HasSent, Holds}
+use Rattle.flows.specs.declared.flow_frames.TheConstants.{MOST_OFFERED}
+use Rattle.flows.specs.declared.output.Output.{Output}
 use Rattle.flows.specs.declared.queue_phase.QueuePhase.{QueuePhase}
 use Rattle.flows.specs.declared.queue_phase.QueuePhase.TheVariants.{Waiting, Serving, Ended}
 use Rattle.flows.specs.declared.concluding.ControllerDone.{ControllerDone}
@@ -25,7 +28,7 @@ pub record OfferedSoFar (i : Input) (r : Receiving) (next : ℕ) : Type 0 where
   pub own : r.end.table ≡ i.from
   pub fill : r.bsize ≡ i.fill
   pub drops : r.drop_en ≡ i.drops
-  pub few_frames : length i.frames ≤ MOST_SCRIPT_FRAMES
+  pub few_frames : length i.frames ≤ MOST_OFFERED
   pub few : next ≤ length i.frames
   pub offered : r.tally.offered ≡ next
   pub chosen : Chosen (frames piece_of (receive.stored r.end)) (take next i.frames)
@@ -96,23 +99,27 @@ pub record IsRxSource (o : RxSource) : Type 0 where
 pub record TxSink : Type 0 where
   pub to : TableId
   pub controller : transmit.ControllerSide
-  pub wire : List Bytes
+  pub output : Output
   pub queue_phase : QueuePhase
 
-abbrev pub tx_sink : TableId → transmit.ControllerSide → List Bytes → QueuePhase → TxSink
-tx_sink to controller wire queue_phase = record { to = to; controller = controller; wire = wire; queue_phase = queue_phase }
+abbrev pub tx_sink : TableId → transmit.ControllerSide → Output → QueuePhase → TxSink
+tx_sink to controller output queue_phase = record { to = to; controller = controller; output = output; queue_phase = queue_phase }
 
--- The wire has the sent frames.
+-- All frames that it sent.
+abbrev pub sent_frames : TxSink → List Bytes
+sent_frames w = frames carried (transmit.sent w.controller)
+
+-- The output holds the sent frames.
 pub record IsTxSink (w : TxSink) : Type 0 where
   pub own : w.controller.table ≡ w.to
   pub stands : StandsAs w.queue_phase (is_serving (transmit.controller_state w.controller))
   pub unserved : w.queue_phase ≡ Waiting → transmit.sent w.controller ≡ []
-  pub wire : w.wire ≡ frames carried (transmit.sent w.controller)
+  pub output : Holds w.output (sent_frames w)
 
 -- What is known of the input whenever the controller's end is returned.
 pub record HasOffered (i : Input) (end : receive.ControllerSide) (tally : Tally) (stored_bytes : ℕ) : Type 0 where
   pub own : end.table ≡ i.from
-  pub few_frames : length i.frames ≤ MOST_SCRIPT_FRAMES
+  pub few_frames : length i.frames ≤ MOST_OFFERED
   pub next : ℕ
   pub few : next ≤ length i.frames
   pub offered : tally.offered ≡ next
@@ -124,6 +131,7 @@ pub record HasOffered (i : Input) (end : receive.ControllerSide) (tally : Tally)
   pub oversize : tally.oversize ≡ length (oversized i.from.slots i.fill (take next i.frames))
   pub are_cut : AreCut i.fill (receive.stored end)
   pub bytes_are : stored_bytes ≡ sum_by length (frames piece_of (receive.stored end))
+  pub few_bytes : stored_bytes ≤ MOST_FRAME * next
   pub finished : receive.is_quiet end ≡ true → next ≡ length i.frames
 
 -- Both halves together.
@@ -131,4 +139,4 @@ pub record HasServed (k : ControllerKey) (s : ControllerDone) : Type 0 where
   pub input : HasOffered k.input s.rx s.tally s.stored_bytes
   pub open input use *
   pub sends : s.tx.table ≡ k.to
-  pub wire : s.wire ≡ frames carried (transmit.sent s.tx)
+  pub sent : HasSent k.keeps (frames carried (transmit.sent s.tx)) s.wire s.sent s.sent_bytes

@@ -17,7 +17,7 @@ use Rattle.controller.specs.Transmitting.{WasIdle, WasSent, WasRefused}
 use Rattle.flows.specs.declared.queue_phase.QueuePhase.TheVariants.{Serving, Ended}
 use Rattle.flows.specs.declared.phase.Phase.{Phase}
 use Rattle.flows.specs.declared.phase.Phase.TheVariants.{Forwarding}
-use Rattle.flows.specs.Served.{RxSource, TxSink, decides}
+use Rattle.flows.specs.Served.{RxSource, TxSink, decides, sent_frames}
 use Rattle.flows.specs.Sides.{Controlling}
 
 -- The controller answered its driver's request, if there was one, and did nothing else. After a disabling it does nothing.
@@ -30,7 +30,8 @@ pub record RxAnswered (old new : RxSource) : Type 0 where
 
 pub record TxAnswered (old new : TxSink) : Type 0 where
   pub to : new.to ≡ old.to
-  pub wire : new.wire ≡ old.wire
+  pub output : new.output ≡ old.output
+  pub sent : sent_frames new ≡ sent_frames old
   pub over : old.queue_phase ≡ Ended → new ≡ old
   pub turned : old.queue_phase ≢ Ended → (told : Control) × TurnedControl old.controller told new.controller
 
@@ -63,9 +64,9 @@ module _ (answers : Who → Event → Bool → Type 0) (number : ℕ) where
   -- The gate allowed a turn of the transmit queue, unless that is not enabled. `Ok false`: there was nothing to send.
   -- `Memory`: there was, and the wire could not grow.
   abbrev pub HasSentOne : TxSink → Result Bool ForwardError → TxSink → Type 0
-  HasSentOne old (Ok true) new = answers (Controller number) TxTurn true × WasSent old.controller old.wire new.controller new.wire
-  HasSentOne old (Ok false) new = ((old.queue_phase ≢ Serving) × (new ≡ old)) ⊎ (answers (Controller number) TxTurn true × WasIdle old.controller old.wire new.controller new.wire)
-  HasSentOne old (Err Memory) new = answers (Controller number) TxTurn true × WasRefused old.controller old.wire new.controller new.wire
+  HasSentOne old (Ok true) new = answers (Controller number) TxTurn true × WasSent old.controller (sent_frames old) new.controller (sent_frames new)
+  HasSentOne old (Ok false) new = ((old.queue_phase ≢ Serving) × (new ≡ old)) ⊎ (answers (Controller number) TxTurn true × WasIdle old.controller (sent_frames old) new.controller (sent_frames new))
+  HasSentOne old (Err Memory) new = answers (Controller number) TxTurn true × WasRefused old.controller (sent_frames old) new.controller (sent_frames new)
   HasSentOne old (Err Gate) new = answers (Controller number) TxTurn false × (new ≡ old)
   HasSentOne old (Err e) new = ⊥
 

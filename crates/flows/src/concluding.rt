@@ -39,8 +39,12 @@ pub struct ControllerDone {
     pub tally: Tally,
     /// The bytes of the stored frames.
     pub stored_bytes: u64,
-    /// The frames that were sent.
+    /// The frames that were sent, if they are kept.
     pub wire: Wire,
+    /// The number of frames that were sent.
+    pub sent: u64,
+    /// The bytes of the sent frames.
+    pub sent_bytes: u64,
 }
 
 /// Makes the report of a flow from both of its sides.
@@ -73,6 +77,8 @@ pub fn conclude(
         tally,
         stored_bytes,
         wire,
+        sent,
+        sent_bytes,
     } = controller;
     meet_rx(from, &mut rx, &mut storing);
     meet_tx(to, &mut tx, &mut sending);
@@ -81,6 +87,8 @@ pub fn conclude(
         stored_bytes,
         driven: counts,
         wire,
+        sent,
+        sent_bytes,
         left: u64::from(untaken) + u64::from(unsent),
         ended,
     }

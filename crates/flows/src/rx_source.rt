@@ -1,71 +1,63 @@
 //! The receive queue of a flow, as its controller serves it.
-ghost use Rattle.std.specs.Prelude.{◌≡◌, ◌<◌, ◌≤◌, All, length, None, IfErr};
-ghost use Rattle.limits.specs.declared.profile.TheConstants.{MOST_SCRIPT_FRAMES};
+ghost use Rattle.std.specs.Prelude.{◌≡◌, ◌≤◌, length, None, IfErr};
 ghost use Rattle.limits.specs.FillSize.{IsFillSize};
 ghost use Rattle.counters.specs.Kinds.{AddsUp, nothing, tally_words};
 ghost use Rattle.rx_ring.specs.Calls.{IsFreshController};
 ghost use Rattle.rx_ring.specs.Ends.{held};
 ghost use Rattle.teams.specs.Gates.{Met};
 ghost use Rattle.teams.specs.Numbers.{NoneFalls};
-ghost use Rattle.flows.specs.Keys.{frames_at};
+ghost use Rattle.flows.specs.declared.flow_frames.TheConstants.{MOST_OFFERED};
 ghost use Rattle.flows.specs.Served.{HasOffered};
 ghost use Rattle.flows.specs.Turns.{HasOfferedOne, RxAnswered};
 
+use crate::flow_frames::FlowFrames;
 use crate::queue_phase::{QueuePhase, bytes_by, is_decided};
 use controller::{RxController, Tally};
 use forwarding::{Event, ForwardError, Gate, Who, admit};
 use rx_ring::{RxControllerEnd, RxRing};
 use std::marker::Model;
-use wire_script::WireFrame;
 
-/// The frames of a flow, which are offered one after another.
+/// The receive queue of a flow and the frames that are offered to it.
 #[derive(Drop)]
 pub(crate) struct RxSource<'a> {
+    frames: FlowFrames<'a>,
     ring: &'a RxRing,
-    script: &'a [WireFrame],
-    places: &'a [u32],
     controller: RxController,
-    next: usize,
     stored_bytes: u64,
     queue_phase: QueuePhase,
 }
 
 impl<'a> Model for RxSource<'a> {
-    ghost use Rattle.std.specs.Prelude.{◌<◌, All, length};
-    ghost use Rattle.flows.specs.Keys.{frames_at};
     ghost use Rattle.flows.specs.Served.{RxSource, IsRxSource, rx_source};
 
     ghost Value = { RxSource };
 
-    ghost view = { λ o. rx_source o.ring.now (frames_at o.script.now o.places.now) o.controller o.next o.stored_bytes o.queue_phase };
+    ghost view = { λ o. rx_source o.ring.now o.frames.frames o.controller o.frames.next o.stored_bytes o.queue_phase };
 
-    ghost invariant = { λ o. IsRxSource (rx_source o.ring.now (frames_at o.script.now o.places.now) o.controller o.next o.stored_bytes o.queue_phase) × All (λ k. k < length o.script.now) o.places.now };
+    ghost invariant = { λ o. IsRxSource (rx_source o.ring.now o.frames.frames o.controller o.frames.next o.stored_bytes o.queue_phase) };
 }
 
 impl<'a> RxSource<'a> {
-    /// The frames of a script at these places, in order. Nothing was offered yet.
+    /// The queue of this ring's end. Nothing was offered yet.
     pub(crate) fn new(
         ring: &'a RxRing,
         end: RxControllerEnd,
-        script: &'a [WireFrame],
-        places: &'a [u32],
+        frames: FlowFrames<'a>,
         bsize: usize,
         drop_en: bool,
     ) -> RxSource<'a>
         requires own { end.table ≡ ring.now }
         requires fresh { IsFreshController end }
         requires bsize { IsFillSize bsize }
-        requires few { length places.now ≤ MOST_SCRIPT_FRAMES }
-        requires places { All (λ k. k < length script.now) places.now }
+        requires few { length frames.frames ≤ MOST_OFFERED }
+        requires next { frames.next ≡ 0 }
         ensures tally { result.controller.tally ≡ nothing }
-        ensures input { result.input ≡ record { from = ring.now; frames = frames_at script.now places.now; fill = bsize; drops = drop_en } }
+        ensures input { result.input ≡ record { from = ring.now; frames = frames.entry.frames; fill = bsize; drops = drop_en } }
     {
         RxSource {
+            frames,
             ring,
-            script,
-            places,
             controller: RxController::new(end, bsize, drop_en),
-            next: 0,
             stored_bytes: 0,
             queue_phase: QueuePhase::Waiting,
         }
@@ -97,17 +89,16 @@ impl<'a> RxSource<'a> {
         if self.queue_phase != QueuePhase::Serving {
             return Ok(false);
         }
-        if self.next == self.places.len() {
+        let Some(frame) = self.frames.upcoming() else {
             return Ok(self.controller.finish(self.ring));
-        }
+        };
         admit(gate, Who::Controller(number), Event::Offer)?;
-        let frame = self.script[self.places[self.next] as usize].bytes();
         let Ok(offer) = self.controller.offer(self.ring, frame) else {
             unreachable!()
         };
         let decided = is_decided(offer);
         if decided {
-            self.next += 1;
+            self.frames.advance();
             self.stored_bytes += bytes_by(offer, frame.len());
         }
         Ok(decided)

@@ -5,21 +5,23 @@ ghost use Rattle.ring_model.specs.shared.Frames.{frames};
 ghost use Rattle.ring_model.specs.transmit.Ring.{carried};
 ghost use Rattle.shared_ring.specs.Calls.{IsFreshController};
 ghost use Rattle.teams.specs.Gates.{Met};
+ghost use Rattle.flows.specs.Sent.{HasSent};
 ghost use Rattle.flows.specs.Turns.{HasSentOne, TxAnswered};
 
+use crate::output::{Output, SentFrames};
 use crate::queue_phase::QueuePhase;
-use controller::{Turn, TxController, Wire};
+use controller::{Turn, TxController};
 use forwarding::{Event, ForwardError, Gate, Who, admit};
 use std::alloc::Global;
 use std::marker::Model;
 use tx_ring::{TxControllerEnd, TxRing};
 
-/// The transmit queue of a flow and its wire.
+/// The transmit queue of a flow and the frames that it sent.
 #[derive(Drop)]
 pub(crate) struct TxSink<'a> {
     ring: &'a TxRing,
     controller: TxController,
-    wire: Wire,
+    output: Output,
     queue_phase: QueuePhase,
 }
 
@@ -28,22 +30,28 @@ impl<'a> Model for TxSink<'a> {
 
     ghost Value = { TxSink };
 
-    ghost view = { λ w. tx_sink w.ring.now w.controller w.wire w.queue_phase };
+    ghost view = { λ w. tx_sink w.ring.now w.controller w.output w.queue_phase };
 
-    ghost invariant = { λ w. IsTxSink (tx_sink w.ring.now w.controller w.wire w.queue_phase) };
+    ghost invariant = { λ w. IsTxSink (tx_sink w.ring.now w.controller w.output w.queue_phase) };
 }
 
 impl<'a> TxSink<'a> {
-    /// An empty wire.
-    pub(crate) fn new(alloc: Global, ring: &'a TxRing, end: TxControllerEnd) -> TxSink<'a>
+    /// The queue of this ring's end. Nothing was sent yet.
+    pub(crate) fn new(
+        alloc: Global,
+        ring: &'a TxRing,
+        end: TxControllerEnd,
+        keep: bool,
+    ) -> TxSink<'a>
         requires own { end.table ≡ ring.now }
         requires fresh { IsFreshController end }
-        ensures { result.to ≡ ring.now }
+        ensures to { result.to ≡ ring.now }
+        ensures keep { result.output.keep ≡ keep }
     {
         TxSink {
             ring,
             controller: TxController::new(end),
-            wire: Wire::new(alloc),
+            output: Output::new(alloc, keep),
             queue_phase: QueuePhase::Waiting,
         }
     }
@@ -52,6 +60,7 @@ impl<'a> TxSink<'a> {
     /// disabling is answered.
     pub(crate) fn control_step(&mut self) -> bool
         ensures to { self.new.to ≡ self.old.to }
+        ensures keep { self.new.output.keep ≡ self.old.output.keep }
         ensures answered { TxAnswered self.old self.new }
     {
         if self.queue_phase == QueuePhase::Ended {
@@ -66,6 +75,7 @@ impl<'a> TxSink<'a> {
     /// could not grow; the next call then sends the frame.
     pub(crate) fn send<G: Gate>(&mut self, number: usize, gate: &G) -> Result<bool, ForwardError>
         ensures to { self.new.to ≡ self.old.to }
+        ensures keep { self.new.output.keep ≡ self.old.output.keep }
         ensures one { HasSentOne (G.answers gate.now) number self.old result self.new }
         ensures refused { IfErr result (λ e. Met G.answers gate.now e) }
     {
@@ -73,10 +83,11 @@ impl<'a> TxSink<'a> {
             return Ok(false);
         }
         admit(gate, Who::Controller(number), Event::TxTurn)?;
-        match self.controller.turn(self.ring, &mut self.wire) {
-            Ok(turn) => Ok(turn == Turn::Sent),
-            Err(_) => Err(ForwardError::Memory),
-        }
+        let Ok(turn) = self.controller.turn(self.ring, &mut self.output.wire) else {
+            return Err(ForwardError::Memory);
+        };
+        self.output.empty_full();
+        Ok(turn == Turn::Sent)
     }
 
     /// How far the queue is.
@@ -86,12 +97,12 @@ impl<'a> TxSink<'a> {
         self.queue_phase
     }
 
-    /// Returns the end, which holds no buffer, and the wire with all sent frames.
-    pub(crate) fn into_end(self) -> (TxControllerEnd, Wire)
+    /// Returns the end, which holds no buffer, and the frames that were sent.
+    pub(crate) fn into_end(self) -> (TxControllerEnd, SentFrames)
         ensures own { result.0.table ≡ self.entry.to }
-        ensures wire { result.1 ≡ frames carried (sent result.0) }
+        ensures sent { HasSent self.entry.output.keep (frames carried (sent result.0)) result.1.wire result.1.frames result.1.bytes }
         ensures unheld { held result.0 ≡ None }
     {
-        (self.controller.into_end(), self.wire)
+        (self.controller.into_end(), self.output.into_sent())
     }
 }

@@ -39,8 +39,8 @@ module _ (came left : List FlowReport) (k : ℕ) (r : FlowReport) where
 
   pub left-more : k < length left → r ≡ get_or left k r → with_left (sums_of came (take k left)) r ≡ sums_of came (take (k + 1) left)
   left-more low here =
-      let packets = total-more (λ q. length q.wire) left k r low here in
-      let bytes = total-more (λ q. sum_by length q.wire) left k r low here in
+      let packets = total-more (λ q. q.sent) left k r low here in
+      let bytes = total-more (λ q. q.sent_bytes) left k r low here in
       let dropped = total-more (λ q. q.driven.tx_dropped) left k r low here in
-      ap (λ (n : ℕ). record (sums_of came (take k left)) { tx_packets = n; tx_bytes = added (total (λ q. sum_by length q.wire) (take k left)) (sum_by length r.wire); tx_dropped = added (total (λ q. q.driven.tx_dropped) (take k left)) r.driven.tx_dropped }) packets
-      ∙ ap₂ (λ (m n : ℕ). record (sums_of came (take k left)) { tx_packets = total (λ q. length q.wire) (take (k + 1) left); tx_bytes = m; tx_dropped = n }) bytes dropped
+      ap (λ (n : ℕ). record (sums_of came (take k left)) { tx_packets = n; tx_bytes = added (total (λ q. q.sent_bytes) (take k left)) r.sent_bytes; tx_dropped = added (total (λ q. q.driven.tx_dropped) (take k left)) r.driven.tx_dropped }) packets
+      ∙ ap₂ (λ (m n : ℕ). record (sums_of came (take k left)) { tx_packets = total (λ q. q.sent) (take (k + 1) left); tx_bytes = m; tx_dropped = n }) bytes dropped

@@ -1,5 +1,5 @@
 -- A flow's report as a JSON object on its own line.
-use Rattle.std.specs.Prelude.{ℕ, ◌-◌, ◌^◌, Bool, true, false, List, [], ◌∷◌, ◌++◌, codes, decimal, length, min, sum_by}
+use Rattle.std.specs.Prelude.{ℕ, ◌-◌, ◌^◌, Bool, true, false, List, [], ◌++◌, codes, decimal, min, sum_by}
 use Rattle.counters.specs.FlowCounters.{entries}
 use Rattle.forwarding.specs.declared.report.Ended.{Ended}
 use Rattle.forwarding.specs.declared.report.Ended.TheVariants.{Cut, Drained}
@@ -24,17 +24,14 @@ end_members input output =
 
 -- the frames that went out, and what remained
 abbrev pub remaining_members : FlowReport → List ℕ
-remaining_members r = codes ",\"wire\":" ++ (decimal (length r.wire) ++ (codes ",\"left\":" ++ decimal r.left))
+remaining_members r = codes ",\"wire\":" ++ (decimal r.sent ++ (codes ",\"left\":" ++ decimal r.left))
 
--- frames and bytes by direction, under the names of ethtool and testpmd
-abbrev pub directions : FlowReport → ℕ → ℕ → List ℕ
-directions r sent bytes =
-    codes ",\"rx_packets\":" ++ (decimal r.tally.stored ++ (codes ",\"rx_bytes\":" ++ (decimal r.stored_bytes ++ (codes ",\"rx_dropped\":" ++ (decimal r.tally.dropped
-    ++ (codes ",\"tx_packets\":" ++ (decimal sent ++ (codes ",\"tx_bytes\":" ++ decimal bytes))))))))
-
--- stored frames count as received, and frames on the wire as sent
+-- frames and bytes by direction, under the names of ethtool and testpmd: stored frames count as received, and frames on
+-- the wire as sent
 abbrev pub direction_members : FlowReport → List ℕ
-direction_members r = directions r (length r.wire) (sum_by length r.wire)
+direction_members r =
+    codes ",\"rx_packets\":" ++ (decimal r.tally.stored ++ (codes ",\"rx_bytes\":" ++ (decimal r.stored_bytes ++ (codes ",\"rx_dropped\":" ++ (decimal r.tally.dropped
+    ++ (codes ",\"tx_packets\":" ++ (decimal r.sent ++ (codes ",\"tx_bytes\":" ++ decimal r.sent_bytes))))))))
 
 -- how it ended
 abbrev pub ended_member : FlowReport → List ℕ
@@ -55,8 +52,8 @@ sums_of came left = record {
   rx_packets = total (λ r. r.tally.stored) came;
   rx_bytes = total (λ r. r.stored_bytes) came;
   rx_dropped = total (λ r. r.tally.dropped) came;
-  tx_packets = total (λ r. length r.wire) left;
-  tx_bytes = total (λ r. sum_by length r.wire) left;
+  tx_packets = total (λ r. r.sent) left;
+  tx_bytes = total (λ r. r.sent_bytes) left;
   tx_dropped = total (λ r. r.driven.tx_dropped) left;
 }
 

@@ -1,6 +1,5 @@
 -- Captures on standard input and output.
-use Rattle.std.specs.Prelude.{ℕ, Bool, ◌≡◌, ◌||◌, if◌then◌else◌, List, [], ◌∷◌, ◌++◌, codes, Option, Some, None}
-use Rattle.std.specs.Str.{bytes_eq}
+use Rattle.std.specs.Prelude.{ℕ, ◌≡◌, List, ◌++◌, Option, Some, None}
 use Rattle.forwarding.specs.declared.report.FlowReport.{FlowReport}
 use Rattle.forward_io.specs.Text.{report_text}
 use Rattle.forward_io.specs.Wires.{port_capture}

@@ -1,5 +1,5 @@
 -- The sums of a port's flows, one flow after another.
-use Rattle.std.specs.Prelude.{ℕ, ◌+◌, ◌-◌, ◌^◌, length, min, sum_by}
+use Rattle.std.specs.Prelude.{ℕ, ◌+◌, ◌-◌, ◌^◌, min}
 use Rattle.forwarding.specs.declared.report.FlowReport.{FlowReport}
 use Rattle.forward_io.specs.declared.sums.PortSums.{PortSums}
 
@@ -18,7 +18,7 @@ with_came s r = record s {
 -- a flow more that left
 abbrev pub with_left : PortSums → FlowReport → PortSums
 with_left s r = record s {
-  tx_packets = added s.tx_packets (length r.wire);
-  tx_bytes = added s.tx_bytes (sum_by length r.wire);
+  tx_packets = added s.tx_packets r.sent;
+  tx_bytes = added s.tx_bytes r.sent_bytes;
   tx_dropped = added s.tx_dropped r.driven.tx_dropped;
 }

@@ -1,6 +1,6 @@
 -- The text of a report: the frames of the wires as script lines, unless it is quiet, then a line or an object for each
 -- flow, and with objects also one for each port.
-use Rattle.std.specs.Prelude.{ℕ, ◌+◌, Bool, true, false, if◌then◌else◌, List, [], ◌∷◌, ◌++◌, codes, decimal, drop, length, map, take}
+use Rattle.std.specs.Prelude.{ℕ, ◌+◌, Bool, true, false, if◌then◌else◌, List, [], ◌∷◌, ◌++◌, codes, decimal, drop, map, take}
 use Rattle.counters.specs.FlowCounters.{entries}
 use Rattle.forwarding.specs.declared.report.FlowReport.{FlowReport}
 use Rattle.forwarding.specs.Reported.{counters_of}
@@ -31,7 +31,7 @@ place_words port queue = codes "flow " ++ (decimal port ++ (codes " " ++ decimal
 -- the frames that went out and remained, and how it ended
 abbrev pub ending_words : FlowReport → List ℕ
 ending_words r =
-    codes " wire " ++ (decimal (length r.wire) ++ (codes " left " ++ (decimal r.left ++ (codes " ended " ++ (ended_word r.ended ++ 10 ∷ [])))))
+    codes " wire " ++ (decimal r.sent ++ (codes " left " ++ (decimal r.left ++ (codes " ended " ++ (ended_word r.ended ++ 10 ∷ [])))))
 
 -- the line of a flow
 unfoldable pub flow_line : ℕ → ℕ → FlowReport → List ℕ

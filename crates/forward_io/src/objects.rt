@@ -7,7 +7,7 @@ ghost use Rattle.forward_io.specs.Objects.{direction_members, end_members, ended
 
 use crate::counts::write_counters;
 use crate::outputs::leaving;
-use crate::sums::{PortSums, bytes_of};
+use crate::sums::PortSums;
 use forwarding::{Ended, FlowReport, PortQueue, peer};
 use requests::Refusal;
 
@@ -58,8 +58,7 @@ fn write_remaining(text: &mut String, flow: &FlowReport) -> Result<(), Refusal>
     ensures members { OnOk result (string_bytes text.new ≡ string_bytes text.old ++ remaining_members flow.now) }
     ensures refused { IfErr result (λ e. e ≡ Memory) }
 {
-    let wire = flow.wire.len();
-    write!(text, ",\"wire\":{wire},\"left\":{}", flow.left)?;
+    write!(text, ",\"wire\":{},\"left\":{}", flow.sent, flow.left)?;
     Ok(())
 }
 
@@ -68,11 +67,10 @@ fn write_directions(text: &mut String, flow: &FlowReport) -> Result<(), Refusal>
     ensures members { OnOk result (string_bytes text.new ≡ string_bytes text.old ++ direction_members flow.now) }
     ensures refused { IfErr result (λ e. e ≡ Memory) }
 {
-    let (packets, bytes) = (flow.wire.len(), bytes_of(&flow.wire));
     write!(
         text,
-        ",\"rx_packets\":{},\"rx_bytes\":{},\"rx_dropped\":{},\"tx_packets\":{packets},\"tx_bytes\":{bytes}",
-        flow.tally.stored, flow.stored_bytes, flow.tally.dropped,
+        ",\"rx_packets\":{},\"rx_bytes\":{},\"rx_dropped\":{},\"tx_packets\":{},\"tx_bytes\":{}",
+        flow.tally.stored, flow.stored_bytes, flow.tally.dropped, flow.sent, flow.sent_bytes,
     )?;
     Ok(())
 }

@@ -10,7 +10,7 @@ use std::fmt;
 pub struct LiveTotals {
     /// The frames offered so far.
     pub offered: u64,
-    /// The frames of the script.
+    /// The frames that are to be offered.
     pub frames: u64,
     /// The frames that the drivers have taken.
     pub taken: u64,

@@ -1,9 +1,8 @@
 //! The sums of a port's flows.
-ghost use Rattle.std.specs.Prelude.{◌≡◌, length, sum_by};
+ghost use Rattle.std.specs.Prelude.{◌≡◌};
 ghost use Rattle.forward_io.specs.Objects.{sums_of, total};
 ghost use Rattle.forward_io.specs.Sums.{with_came, with_left};
 
-use controller::Wire;
 use forwarding::FlowReport;
 
 /// The frames and bytes that came in at a port, and those that left it. A sum that exceeds `u64::MAX` is that number.
@@ -55,17 +54,16 @@ impl PortSums {
     fn with_left(self, flow: &FlowReport) -> PortSums
         ensures { result ≡ with_left self flow.now }
     {
-        let (packets, bytes) = (flow.wire.len() as u64, bytes_of(&flow.wire) as u64);
         PortSums {
-            tx_packets: self.tx_packets.saturating_add(packets),
-            tx_bytes: self.tx_bytes.saturating_add(bytes),
+            tx_packets: self.tx_packets.saturating_add(flow.sent),
+            tx_bytes: self.tx_bytes.saturating_add(flow.sent_bytes),
             tx_dropped: self.tx_dropped.saturating_add(flow.driven.tx_dropped),
             ..self
         }
     }
 }
 
-/// The frames and bytes on the wires of flows. A sum that exceeds `u64::MAX` is that number.
+/// The frames and bytes that flows sent. A sum that exceeds `u64::MAX` is that number.
 #[derive(Clone, Copy, Debug, PartialEq, Eq)]
 pub struct WireTotals {
     /// The frames.
@@ -77,8 +75,8 @@ pub struct WireTotals {
 impl WireTotals {
     /// The sums of these flows.
     pub fn of(flows: &[FlowReport]) -> WireTotals
-        ensures frames { result.frames ≡ total (λ r. length r.wire) flows.now }
-        ensures bytes { result.bytes ≡ total (λ r. sum_by length r.wire) flows.now }
+        ensures frames { result.frames ≡ total (λ r. r.sent) flows.now }
+        ensures bytes { result.bytes ≡ total (λ r. r.sent_bytes) flows.now }
     {
         let sums = PortSums::of(&[], flows);
         WireTotals {
@@ -86,16 +84,4 @@ impl WireTotals {
             bytes: sums.tx_bytes,
         }
     }
-}
-
-/// Number of bytes on the wire. They are all in memory, so the sum cannot overflow.
-pub(crate) fn bytes_of(wire: &Wire) -> usize
-    ensures { result ≡ sum_by length wire.now }
-{
-    let (_, _most) = wire.capacity();
-    let mut bytes = 0usize;
-    for frame in wire.iter() {
-        bytes += frame.len();
-    }
-    bytes
 }

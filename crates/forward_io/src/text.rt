@@ -10,7 +10,6 @@ ghost use Rattle.forward_io.specs.Text.{ending_words, flow_line, flow_text, flow
 use crate::counts::write_counters;
 use crate::objects::{word_of, write_object, write_ports};
 use crate::outputs::leaving;
-use crate::sums::bytes_of;
 use controller::Wire;
 use forwarding::FlowReport;
 use requests::{Printing, Refusal};
@@ -24,16 +23,23 @@ const AROUND_FRAME: usize = 5;
 const FLOW_LINE: usize = 512;
 
 /// Number of bytes of a wire's lines: two digits for each byte of its frames, and what is around each frame.
-fn wire_room(wire: &Wire) -> usize {
+fn wire_room(wire: &Wire, bytes: u64) -> usize {
     let around = wire.len().saturating_mul(AROUND_FRAME);
-    bytes_of(wire).saturating_mul(2).saturating_add(around)
+    if wire.is_empty() {
+        return around;
+    }
+    (bytes as usize).saturating_mul(2).saturating_add(around)
 }
 
 /// Capacity for the text of these flows.
 fn room_for(flows: &[FlowReport], quiet: bool) -> usize {
     let mut room = 0usize;
     for flow in flows {
-        let wire = if quiet { 0 } else { wire_room(&flow.wire) };
+        let wire = if quiet {
+            0
+        } else {
+            wire_room(&flow.wire, flow.sent_bytes)
+        };
         room = room.saturating_add(wire).saturating_add(FLOW_LINE);
     }
     room
@@ -113,7 +119,7 @@ fn write_ending(text: &mut String, flow: &FlowReport) -> Result<(), Refusal>
     ensures words { OnOk result (string_bytes text.new ≡ string_bytes text.old ++ ending_words flow.now) }
     ensures refused { IfErr result (λ e. e ≡ Memory) }
 {
-    let (wire, word) = (flow.wire.len(), word_of(flow.ended));
+    let (wire, word) = (flow.sent, word_of(flow.ended));
     writeln!(text, " wire {wire} left {} ended {word}", flow.left)?;
     Ok(())
 }

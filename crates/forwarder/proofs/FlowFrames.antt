@@ -1,7 +1,7 @@
 -- The frames at the places of a flow are the script's frames of that flow.
 use Rattle.std.proofs.Common.{◌≡◌, ◌∙◌, ℕ, ◌+◌, ◌==◌, List, [], ◌∷◌, ◌++◌, Bool, true, false, Some, refl, ap, sym, cond, length, append_assoc, length-append, arith}
 use Rattle.std.specs.Prelude.{slice_get}
-use Rattle.flows.specs.Keys.{bytes_at, frames_at}
+use Rattle.flows.specs.Keys.{bytes_at, frames_at, repeated}
 use Rattle.ring_model.specs.shared.Frames.{Bytes}
 use Rattle.wire_script.specs.Frame.{Frame}
 use Rattle.settings.specs.declared.config.Config.{Config}
@@ -24,5 +24,5 @@ frames-from pairs flow k script front (x ∷ xs) whole here =
     by-case false later frames same own = same
 
 -- so a plan has just these
-pub plan-frames : (config : Config) (script : List Frame) (flow : ℕ) → (plan config script flow).frames ≡ frames_of config.pairs flow script
-plan-frames config script flow = frames-from config.pairs flow 0 script [] script refl refl
+pub plan-frames : (config : Config) (script : List Frame) (flow : ℕ) → (plan config script flow).frames ≡ repeated config.repeat (frames_of config.pairs flow script)
+plan-frames config script flow = ap (repeated config.repeat) (frames-from config.pairs flow 0 script [] script refl refl)

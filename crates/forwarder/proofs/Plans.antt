@@ -1,11 +1,16 @@
 -- Places of a script, and lists that go together place by place.
 use Rattle.std.proofs.Common.{◌≡◌, ◌∙◌, ℕ, ◌+◌, ◌<◌, ◌≤◌, ◌==◌, Bool, true, false, List, [], ◌∷◌, ◌++◌, All, refl, ap, sym, subst, cond, drop, take, map, length, get_or, zero, suc, inl, inr, arith}
+use Rattle.std.proofs.lemmas.Nat.{mul-le}
 use Rattle.std.proofs.lemmas.Bool.{cases_eq}
 use Rattle.std.proofs.lemmas.List.{take_more}
 use Rattle.std.proofs.lemmas.List.Elements.{All-push}
 use Rattle.std.specs.List.{AllZip}
 use Rattle.std.specs.Prelude.{slice_index_or}
-use Rattle.flows.specs.Keys.{ControllerKey, DriverKey, Plan}
+use Rattle.limits.specs.declared.profile.TheConstants.{MOST_SCRIPT_FRAMES}
+use Rattle.settings.specs.declared.config.TheConstants.{MOST_REPEAT}
+use Rattle.flows.proofs.Rounds.{as-many, length-repeated}
+use Rattle.flows.specs.declared.flow_frames.TheConstants.{MOST_OFFERED}
+use Rattle.flows.specs.Keys.{ControllerKey, DriverKey, Plan, frames_at, repeated}
 use Rattle.flows.specs.Reports.{IsReport}
 use Rattle.forwarding.specs.declared.report.FlowReport.{FlowReport}
 use Rattle.pool.specs.Owned.{Pooled}
@@ -45,6 +50,13 @@ places-low pairs flow xs = places-from-low pairs flow 0 (length xs) xs (omega ar
 -- and no more than it has
 pub places-few : (pairs flow : ℕ) (xs : List Frame) → length (places_of pairs flow xs) ≤ length xs
 places-few pairs flow xs = places-from-few pairs flow 0 xs
+
+-- and repeated they are no more than a flow may be offered
+pub repeated-few : (repeat : ℕ) (script : List Frame) (places : List ℕ) → repeat ≤ MOST_REPEAT → length places ≤ MOST_SCRIPT_FRAMES → length (repeated repeat (frames_at script places)) ≤ MOST_OFFERED
+repeated-few repeat script places often few =
+    let long = length-repeated repeat (frames_at script places) in let same = as-many script places in
+    let most = mul-le repeat (length (frames_at script places)) MOST_REPEAT MOST_SCRIPT_FRAMES often (omega (arith, same, few)) in
+    omega (arith, long, most)
 
 -- all of a list, and one item more
 pub all-last : {X : Type 0} (P : X → Type 0) (xs xs' : List X) (x : X) → xs' ≡ xs ++ x ∷ [] → All P xs → P x → All P xs'

@@ -1,10 +1,9 @@
 -- The views of watched flows in contracts.
-use Rattle.std.specs.Prelude.{◌≡◌, ℕ, ◌<◌, List, map, slice_index_or}
+use Rattle.std.specs.Prelude.{◌≡◌, ℕ, ◌<◌, List, slice_index_or}
 use Rattle.counters.specs.Cells.{Knowing}
 use Rattle.counters.specs.Kinds.{driven_sum, driven_words, none_taken, nothing, tally_sum, tally_words}
 use Rattle.counters.specs.Snapshots.{AreCounts}
 use Rattle.counters.specs.declared.driven.Driven.{Driven}
-use Rattle.counters.specs.declared.flows.FlowCells.{FlowCells}
 use Rattle.counters.specs.declared.flows.FlowPens.{FlowPens}
 use Rattle.counters.specs.declared.tally.Tally.{Tally}
 

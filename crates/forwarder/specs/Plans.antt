@@ -1,6 +1,6 @@
 -- The plan of each flow, and the keys of its two sides.
 use Rattle.std.specs.Prelude.{◌≡◌, ℕ, Bool, false, ◌+◌, ◌*◌, ◌/◌, ◌<◌, List, min, slice_index_or}
-use Rattle.flows.specs.Keys.{ControllerKey, DriverKey, Plan, frames_at, plan_of}
+use Rattle.flows.specs.Keys.{ControllerKey, DriverKey, Plan, frames_at, plan_of, repeated}
 use Rattle.flows.specs.Reports.{IsReport}
 use Rattle.forwarding.specs.declared.report.FlowReport.{FlowReport}
 use Rattle.pool.specs.Owned.{Pooled}
@@ -10,9 +10,9 @@ use Rattle.forwarder.specs.declared.flow_rings.FlowRings.{FlowRings}
 use Rattle.forwarder.specs.Flows.{places_of}
 
 -- The plan of a flow of the script under this configuration: its frames are those of the script that come in at its
--- port and queue, in order. `stops`: somebody may stop the flow.
+-- port and queue, in order, as often as the configuration repeats them. `stops`: somebody may stop the flow.
 abbrev pub plan_with : Bool → Config → List Frame → ℕ → Plan
-plan_with stops c script flow = record { frames = frames_at script (places_of c.pairs flow script); size = c.ring; fill = c.bsize; drops = c.drop_en; retries = c.retry; turns = c.turns; stops = stops }
+plan_with stops c script flow = record { frames = repeated c.repeat (frames_at script (places_of c.pairs flow script)); size = c.ring; fill = c.bsize; drops = c.drop_en; retries = c.retry; turns = c.turns; stops = stops; keeps = c.keep }
 
 -- The plan of a flow that nobody may stop.
 abbrev pub plan : Config → List Frame → ℕ → Plan

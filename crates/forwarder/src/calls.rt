@@ -28,8 +28,8 @@ use std::sync::atomic::AtomicBool;
 use std::thread::Threads;
 use wire_script::Script;
 
-/// Forwards the frames of a script: each frame received at a port's queue is touched and sent at the other port's queue
-/// of the same number. Makes two rings for each flow, and a team of workers for each side.
+/// Forwards the frames of a script, as often as the configuration repeats them: each frame received at a port's queue is
+/// touched and sent at the other port's queue of the same number. Makes two rings for each flow, and a team of workers for each side.
 ///
 /// Returns `Config` exactly if the configuration's `check` refuses, before anything is made; `Gate` only if a gate
 /// returns false; `Memory` or `Thread` if one of these was refused. All started workers are joined before it returns.

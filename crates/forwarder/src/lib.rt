@@ -44,5 +44,5 @@ pub use numbered::Numbered;
 pub use report::Report;
 pub use running::Watch;
 pub use serving::{ServedWithPens, serve_watched};
-pub use settings::{Config, LEAST_SHARE};
+pub use settings::{Config, LEAST_SHARE, MOST_REPEAT};
 pub use starting::start_flow;

@@ -13,7 +13,7 @@ ghost use Rattle.forwarder.specs.Plans.{AreSides, AreAllSides, plan_with};
 use crate::flow_rings::{FlowRingEnds, FlowRings};
 use crate::index::Index;
 use crate::starting::start_flow;
-use flows::{ControllerFlow, DriverFlow};
+use flows::{ControllerFlow, DriverFlow, FlowFrames};
 use forwarding::ForwardError;
 use pool::{Pool, PoolPass};
 use settings::Config;
@@ -69,9 +69,10 @@ fn make_side<'a, R: Wait>(
         number,
         (&flow_rings.from, &flow_rings.to),
         (ends.stores, ends.sends),
-        (script.frames(), places),
+        FlowFrames::new(script.frames(), places, config.repeat),
         config.bsize as usize,
         config.drop_en,
+        config.keep,
     );
     FlowSides { driver, controller }
 }

@@ -11,6 +11,7 @@ mod gates;
 mod gathered;
 mod readers;
 mod refusing;
+mod repeating;
 mod rows;
 mod side_by_side;
 mod trials;

@@ -15,7 +15,7 @@ pub enum Ended {
     Cut,
 }
 
-/// The report of a flow: its frame counts and its wire.
+/// The report of a flow: its counts and its wire.
 #[derive(Drop)]
 pub struct FlowReport {
     /// The frames that were offered, and their outcomes.
@@ -24,8 +24,12 @@ pub struct FlowReport {
     pub stored_bytes: u64,
     /// The frames that the driver took, and what became of them.
     pub driven: Driven,
-    /// The frames that were sent, in order.
+    /// The frames that were sent, in order, if they are kept.
     pub wire: Wire,
+    /// The number of frames that were sent.
+    pub sent: u64,
+    /// The bytes of the sent frames.
+    pub sent_bytes: u64,
     /// The segments that were stored and not taken plus those that were posted and not sent.
     pub left: u64,
     /// How the flow ended.
@@ -49,11 +53,13 @@ impl fmt::Debug for FlowReport {
     fn fmt<W: fmt::Write>(&self, f: &mut fmt::Formatter<W>) -> fmt::Result {
         write!(
             f,
-            "FlowReport {{ tally: {:?}, stored_bytes: {}, driven: {:?}, wire: {}, left: {}, ended: {:?} }}",
+            "FlowReport {{ tally: {:?}, stored_bytes: {}, driven: {:?}, wire: {}, sent: {}, sent_bytes: {}, left: {}, ended: {:?} }}",
             self.tally,
             self.stored_bytes,
             self.driven,
             self.wire.len(),
+            self.sent,
+            self.sent_bytes,
             self.left,
             self.ended
         )

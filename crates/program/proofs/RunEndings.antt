@@ -22,7 +22,7 @@ use Rattle.capture.specs.declared.options.ReadOptions.{ReadOptions}
 use Rattle.forward_io.specs.Intakes.{FrameIntake}
 use Rattle.requests.specs.Files.{PortFile, SourceFile}
 use Rattle.forward_io.specs.Streams.{Outlet, outlet}
-use Rattle.program.specs.RunEnds.{EndsForwarding, EndsSaid, intake_of}
+use Rattle.program.specs.RunEnds.{EndsForwarding, EndsSaid, config_for, intake_of}
 use Rattle.schedule_command.specs.Lists.{EndsSchedules}
 use Rattle.requests.specs.declared.lists.ScheduleRequest.{ScheduleRequest}
 use Rattle.schedule_command.specs.Covers.{EndsCover}
@@ -70,11 +70,11 @@ pub replay-kept : (plan : QueuePlan) (text : List ℕ) (old new : Option (List �
 replay-kept plan text old new kept = record { done = undone plan text old new; either = inr refl; faulty = λ k f. (refl, kept); no_queues = λ no. (refl, kept) }
 
 pub forward-ends : (given config : Config) (shown printing : Printing) (wires : List PortFile) (intake : FrameIntake) (input : Option (List ℕ)) (status : ℕ)
-    (old new : Option (List ℕ)) → (given ≡ config) × (shown ≡ printing) → EndsForwarding given (outlet shown wires) intake input status old new
-    → EndsForwarding config (outlet printing wires) intake input status old new
+    (old new : Option (List ℕ)) → (given ≡ config) × (shown ≡ printing) → EndsForwarding (config_for given shown.quiet wires) (outlet shown wires) intake input status old new
+    → EndsForwarding (config_for config printing.quiet wires) (outlet printing wires) intake input status old new
 forward-ends given config shown printing wires intake input status old new is ends =
-    subst (λ (c : Config). EndsForwarding c (outlet printing wires) intake input status old new) is.0
-    (subst (λ (p : Printing). EndsForwarding given (outlet p wires) intake input status old new) is.1 ends)
+    subst (λ (c : Config). EndsForwarding (config_for c printing.quiet wires) (outlet printing wires) intake input status old new) is.0
+    (subst (λ (p : Printing). EndsForwarding (config_for given p.quiet wires) (outlet p wires) intake input status old new) is.1 ends)
 
 -- a refusal that prints nothing ends it, whatever is forwarded
 pub forward-kept : (config : Config) (to : Outlet) (intake : FrameIntake) (input old new : Option (List ℕ)) → Keeps old new
@@ -85,13 +85,14 @@ forward-kept config to intake input old new keeps = record {
   refused = λ e. inl keeps;
 }
 
--- with other names of the same files
-pub forward-of : (config : Config) (printing : Printing) (held-wires wires : List PortFile) (held intake : FrameIntake) (input : Option (List ℕ)) (status : ℕ)
-    (old new : Option (List ℕ)) → held-wires ≡ wires → held ≡ intake → EndsForwarding config (outlet printing held-wires) held input status old new
-    → EndsForwarding config (outlet printing wires) intake input status old new
-forward-of config printing held-wires wires held intake input status old new same-wires same ends =
-    subst (λ (i : FrameIntake). EndsForwarding config (outlet printing wires) i input status old new) same
-    (subst (λ (ws : List PortFile). EndsForwarding config (outlet printing ws) held input status old new) same-wires ends)
+-- with other names of the same files, and of the configuration for them
+pub forward-of : (config made : Config) (printing : Printing) (held-wires wires : List PortFile) (held intake : FrameIntake) (input : Option (List ℕ)) (status : ℕ)
+    (old new : Option (List ℕ)) → made ≡ config_for config printing.quiet held-wires → held-wires ≡ wires → held ≡ intake → EndsForwarding made (outlet printing held-wires) held input status old new
+    → EndsForwarding (config_for config printing.quiet wires) (outlet printing wires) intake input status old new
+forward-of config made printing held-wires wires held intake input status old new is same-wires same ends =
+    subst (λ (i : FrameIntake). EndsForwarding (config_for config printing.quiet wires) (outlet printing wires) i input status old new) same
+    (subst (λ (ws : List PortFile). EndsForwarding (config_for config printing.quiet ws) (outlet printing ws) held input status old new) same-wires
+    (subst (λ (c : Config). EndsForwarding c (outlet printing held-wires) held input status old new) is ends))
 
 -- an intake, from its parts
 pub intake-is : (held sources : List SourceFile) (given reading : ReadOptions) (is_terminal : Bool) → held ≡ sources → given ≡ reading
@@ -124,7 +125,7 @@ pub kept : (saying : ParsedCommand) (is_terminal : Bool) (input old new : Option
 kept (once digits) is_terminal input old new keeps = once-kept (frame_in digits) old new keeps
 kept (decode form digits) is_terminal input old new keeps = inr (refl, keeps)
 kept (replay plan) is_terminal input old new keeps = λ text known. replay-kept plan text old new keeps
-kept (forward config printing files) is_terminal input old new keeps = forward-kept config (outlet printing files.wires) (intake_of files is_terminal) input old new keeps
+kept (forward config printing files) is_terminal input old new keeps = forward-kept (config_for config printing.quiet files.wires) (outlet printing files.wires) (intake_of files is_terminal) input old new keeps
 kept (from_capture port queue reading) is_terminal input old new keeps = λ bytes known. capture-kept (lines_meant port queue reading bytes) old new keeps
 kept (to_capture port) is_terminal input old new keeps = λ text known. capture-kept (capture_meant port text) old new keeps
 kept (schedules request) is_terminal input old new keeps = schedules-kept request old new keeps
@@ -144,7 +145,7 @@ request-ends (cover request′) request is_terminal input status old new is ends
 
 pub forward-said : (words : List Text) (saying : ParsedCommand) (given : Config) (shown : Printing) (is_terminal : Bool) (input : Option (List ℕ)) (status : ℕ) (old new : Option (List ℕ))
     → IsAsked saying (asked.Forward given shown) → Says words saying
-    → ((config : Config) (printing : Printing) (files : FileOptions) → SaysForward words config printing files → EndsForwarding given (outlet shown files.wires) (intake_of files is_terminal) input status old new)
+    → ((config : Config) (printing : Printing) (files : FileOptions) → SaysForward words config printing files → EndsForwarding (config_for given shown.quiet files.wires) (outlet shown files.wires) (intake_of files is_terminal) input status old new)
     → EndsSaid saying is_terminal input status old new
 forward-said words saying given shown is_terminal input status old new is says ends =
     each (λ s. IsAsked s (asked.Forward given shown) → Says words s → EndsSaid s is_terminal input status old new) (λ d is says. absurd is) (λ f d is says. absurd is)

@@ -1,5 +1,5 @@
 -- The text of a run's rate.
-use Rattle.std.specs.Prelude.{◌≡◌, ℕ, ◌-◌, ◌*◌, ◌/◌, ◌%◌, ◌^◌, Bool, true, false, List, ◌++◌, codes, decimal, max, min}
+use Rattle.std.specs.Prelude.{ℕ, ◌-◌, ◌*◌, ◌/◌, ◌%◌, ◌^◌, Bool, true, false, List, ◌++◌, codes, decimal, max, min}
 use Rattle.std.specs.Fmt.{format_spec, styled_decimal}
 use Rattle.program.specs.declared.rate.RateLine.{RateLine}
 

@@ -149,7 +149,7 @@ fn page_of<R: Host + Sync + Files, I: Read, M: Write + IsTerminal + Send>(
     let (intake, wires) = (&asked.intake, asked.wires);
     let targets = targets_of(rt, alloc, intake.sources, wires)?;
     let (script, skipped) = script_for(rt, alloc, config.pairs, intake, input, why)?;
-    let due = Due::of(&script);
+    let due = Due::of(&script, config.repeat);
     let form = printing.form(screen.is_terminal());
     let (report, nanos) = timed(rt, alloc, config, script, screen, form)?;
     let pairs = config.pairs as usize;

@@ -5,19 +5,19 @@ use limits::{MOST_PAIRS, PORTS};
 use std::alloc::AllocError;
 use wire_script::Script;
 
-/// The number of frames of a script for each flow.
+/// The number of frames that are to be offered to each flow.
 #[derive(Drop)]
 pub(crate) struct Due {
     frames: [[u64; MOST_PAIRS]; PORTS],
 }
 
 impl Due {
-    /// Counts the frames of a script.
-    pub(crate) fn of(script: &Script) -> Due {
+    /// Counts the frames of a script that is offered this many times.
+    pub(crate) fn of(script: &Script, repeat: u32) -> Due {
         let mut frames = [[0u64; MOST_PAIRS]; PORTS];
         for frame in script.frames() {
             let count = &mut frames[frame.port() as usize][frame.queue() as usize];
-            *count = count.saturating_add(1);
+            *count = count.saturating_add(u64::from(repeat));
         }
         Due { frames }
     }

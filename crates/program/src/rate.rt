@@ -1,5 +1,5 @@
 //! The rate of a run, which `--rate` shows at its end.
-ghost use Rattle.std.specs.Prelude.{◌≡◌, ◌<◌, IfErr, IfOk, None, Some, false, length, sum_by};
+ghost use Rattle.std.specs.Prelude.{◌≡◌, IfErr, IfOk, None, Some, false};
 ghost use Rattle.forward_io.specs.Objects.{total};
 ghost use Rattle.program.specs.Forwards.{AreReports, IsUnforwarded};
 ghost use Rattle.program.specs.RateLines.{each_nano, rate_text, seconds_text, thousandths_text};
@@ -54,8 +54,8 @@ impl RateLine {
     /// The line of the flows of a run.
     fn of(flows: &[FlowReport], nanos: u64, json: bool) -> RateLine
         ensures form { result.json ≡ json }
-        ensures frames { result.frames ≡ total (λ r. length r.wire) flows.now }
-        ensures bytes { result.bytes ≡ total (λ r. sum_by length r.wire) flows.now }
+        ensures frames { result.frames ≡ total (λ r. r.sent) flows.now }
+        ensures bytes { result.bytes ≡ total (λ r. r.sent_bytes) flows.now }
         ensures nanos { result.nanos ≡ nanos }
     {
         let WireTotals { frames, bytes } = WireTotals::of(flows);

@@ -6,7 +6,7 @@ ghost use Rattle.clap.specs.Words.{kind_of};
 ghost use Rattle.clap.specs.declared.error.kind.ErrorKind.TheVariants.{OutOfMemory};
 ghost use Rattle.command_line.specs.CommandLine.{IsMistake, IsMisuse, SaysForward};
 ghost use Rattle.command_line.specs.FileWords.{FileOptions};
-ghost use Rattle.program.specs.RunEnds.{EndsForwarding, EndsSaid, intake_of};
+ghost use Rattle.program.specs.RunEnds.{EndsForwarding, EndsSaid, config_for, intake_of};
 ghost use Rattle.requests.specs.declared.printing.Printing.{Printing};
 ghost use Rattle.forward_io.specs.Intakes.{reads_script};
 ghost use Rattle.forward_io.specs.Streams.{outlet};
@@ -21,7 +21,7 @@ use command_line::{Asked, asked_of, files_of};
 use commands::answer;
 use forward_io::captured::Intake;
 use forwarder::Config as ForwardConfig;
-use requests::{EXIT_REFUSED, EXIT_SUCCESS, Printing as Printed, Refusal, refuse};
+use requests::{EXIT_REFUSED, EXIT_SUCCESS, Printing as Printed, Refusal, WireFile, refuse};
 use std::alloc::Global;
 use std::io::{IsTerminal, Read, Write};
 use std::marker::Send;
@@ -102,6 +102,17 @@ fn says_explain(words: &[String]) -> bool {
     words.iter().any(|word| word.as_str() == EXPLAIN)
 }
 
+/// The configuration by which a run with these wire files forwards: the frames that leave are kept if they are printed or
+/// written to files.
+fn config_for(config: &ForwardConfig, quiet: bool, wires: &[WireFile<'_>]) -> ForwardConfig
+    ensures { result ≡ config_for config.now quiet wires.now }
+{
+    ForwardConfig {
+        keep: !quiet || !wires.is_empty(),
+        ..*config
+    }
+}
+
 /// Forwards under this configuration, with the files in the words, and returns the status.
 fn forward<R: Host + Sync + Files, I: Read, W: Write, E: Write, M: Write + IsTerminal + Send>(
     rt: &R,
@@ -122,21 +133,22 @@ fn forward<R: Host + Sync + Files, I: Read, W: Write, E: Write, M: Write + IsTer
     ensures screen { (said : Config) (shown : Printing) (files : FileOptions) → SaysForward (map string_bytes words.now) said shown files
         → printing.progress ≡ false → printing.rate ≡ false → streamed_port files.wires ≡ None → files.reading.skip ≡ false → config.now.turns ≡ 0 → screen.new ≡ screen.old }
     ensures ends { (said : Config) (shown : Printing) (files : FileOptions) → SaysForward (map string_bytes words.now) said shown files
-        → EndsForwarding config.now (outlet printing files.wires) (intake_of files is_terminal) (I.remaining input.old) result (W.contents output.old) (W.contents output.new) }
+        → EndsForwarding (config_for config.now printing.quiet files.wires) (outlet printing files.wires) (intake_of files is_terminal) (I.remaining input.old) result (W.contents output.old) (W.contents output.new) }
     ensures unread { (said : Config) (shown : Printing) (files : FileOptions) → SaysForward (map string_bytes words.now) said shown files
         → reads_script (intake_of files is_terminal) ≡ false → input.new ≡ input.old }
 {
     match files_of(alloc, words) {
         Ok(files) => {
+            let wires = files.wires.as_slice();
             let asked = Forwarding {
-                config,
+                config: &config_for(config, printing.quiet, wires),
                 printing,
                 intake: Intake {
                     sources: files.sources.as_slice(),
                     reading: files.reading,
                     is_terminal,
                 },
-                wires: files.wires.as_slice(),
+                wires,
                 explain,
             };
             captured::answer(rt, alloc, &asked, input, output, faults, screen)

@@ -2,7 +2,7 @@
 
 use limits::{BUFFER_BYTES, FEWEST_BUFFERS, MOST_BATCH, MOST_BUFFERS, MOST_RS_EVERY};
 use requests::{Source, explain_queues};
-use settings::{Config, ConfigFault, LEAST_SHARE};
+use settings::{Config, ConfigFault, LEAST_SHARE, MOST_REPEAT};
 use std::alloc::AllocError;
 
 /// Explains why a configuration is refused: the first option that is outside its range, or the first source whose
@@ -53,13 +53,14 @@ fn explain_buffers(
     }
 }
 
-/// Explains a number of packets, frames or threads.
+/// Explains a number of packets, frames, threads or repetitions.
 fn explain_work(why: &mut String, config: &Config, fault: ConfigFault) -> Result<(), AllocError> {
     let Config {
         pairs,
         batch,
         rs_every,
         workers,
+        repeat,
         ..
     } = *config;
     match fault {
@@ -71,6 +72,7 @@ fn explain_work(why: &mut String, config: &Config, fault: ConfigFault) -> Result
             1,
             u32::from(MOST_RS_EVERY),
         ),
+        ConfigFault::Repeat => explain_range(why, "--repeat", repeat, 1, MOST_REPEAT),
         _ => write!(
             why,
             "--workers is {workers}, but must be 1 to {} with --pairs {pairs}",

@@ -291,6 +291,6 @@ fn debug_texts_name_each_number(rt: HostRuntime) {
         text.as_str(),
         "Some(FlowReport { tally: Tally { offered: 10, stored: 10, dropped: 0, oversize: 0 }, \
          stored_bytes: 15000, driven: Driven { taken: 10, posted: 10, tx_dropped: 0 }, \
-         wire: 10, left: 0, ended: Drained })",
+         wire: 10, sent: 10, sent_bytes: 15000, left: 0, ended: Drained })",
     );
 }

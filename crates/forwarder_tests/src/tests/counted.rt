@@ -72,7 +72,7 @@ pub(crate) fn is_drained(report: &Report, script: &Script, pairs: u32, wanted: &
         if counts_of(flow) != *counts || flow.ended != Ended::Drained {
             return false;
         }
-        if !carries(&flow.wire, script, port, queue) {
+        if flow.sent != counts[7] || !carries(&flow.wire, script, port, queue) {
             return false;
         }
         queue = queue.saturating_add(1);

@@ -7,7 +7,7 @@ use crate::tests::trials::{Asked, Trial, each_is_so};
 use crate::tests::wanted::{holds, same};
 use controller::Wire;
 use flows::FlowReport;
-use forwarder::{Config, forward};
+use forwarder::{Config, MOST_REPEAT, forward};
 use forwarding::Open;
 use std::alloc::Global;
 use std::process::Abort;
@@ -15,9 +15,10 @@ use std::sync::Wait;
 use std::thread::Threads;
 use tx_ring::Completion;
 
-/// Four flows over rings of 512.
+/// Four flows over rings of 512, with as many rounds as possible.
 const EMPTY: Config = Config {
     pairs: 2,
+    repeat: MOST_REPEAT,
     ..Config::DEFAULT
 };
 

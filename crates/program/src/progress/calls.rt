@@ -96,7 +96,7 @@ fn forward_beside<R: Threads + Wait + Clock + Sync, G: Gate + Sync, M: Write + S
     } = gauges;
     let over = AtomicBool::new(false);
     let over = &over;
-    let frames = script.frames().len() as u64;
+    let frames = (script.frames().len() as u64).saturating_mul(u64::from(config.repeat));
     let (_, ran) = thread::join(
         rt,
         move || watch(rt, readers.as_mut_slice(), frames, screen, form, over),

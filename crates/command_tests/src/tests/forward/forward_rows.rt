@@ -66,6 +66,20 @@ pub const FORWARDED: &[Row] = &[
         ),
     ),
     (
+        &["forward", "--repeat", "2"],
+        "0 0 fill 14 05\n1 0 fill 14 ff\n0 0 fill 14 08\n",
+        Ok(
+            "0 0 ff00ffffffffffffffffffffffff\n\
+             0 0 ff00ffffffffffffffffffffffff\n\
+             1 0 0506050505050505050505050505\n\
+             1 0 0809080808080808080808080808\n\
+             1 0 0506050505050505050505050505\n\
+             1 0 0809080808080808080808080808\n\
+             flow 0 0 offered 4 stored 4 dropped 0 oversize 0 taken 4 posted 4 tx-dropped 0 wire 4 left 0 ended drained\n\
+             flow 1 0 offered 2 stored 2 dropped 0 oversize 0 taken 2 posted 2 tx-dropped 0 wire 2 left 0 ended drained\n",
+        ),
+    ),
+    (
         &["forward", "--pairs", "2", "--workers", "2"],
         "1 1 fill 14 0a\n0 1 000102030405060708090A0B0C0D\n1 0 fill 14 0b\n1 1 fill 14 0c",
         Ok(

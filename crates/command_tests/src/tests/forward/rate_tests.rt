@@ -70,7 +70,10 @@ fn shows<R: Host>(rt: &R, alloc: Global, options: &[&str], script: &[u8], first:
 
 const SHOWN: &[(&[&str], &str)] = &[
     (&[], "rate frames 40 bytes 2400 seconds "),
-    (&["--quiet"], "rate frames 40 bytes 2400 seconds "),
+    (
+        &["--quiet", "--repeat", "1000"],
+        "rate frames 40000 bytes 2400000 seconds ",
+    ),
     (
         &["--wire-capture", "1=-"],
         "rate frames 40 bytes 2400 seconds ",

@@ -1,4 +1,4 @@
-use Rattle.std.proofs.Common.{◌∙◌, ◌+◌, ◌++◌, List, ap, refl, arith}
+use Rattle.std.proofs.Common.{◌∙◌, ◌++◌, List, ap, refl, arith}
 use Rattle.buffer_pool.specs.Buffer.{Buffer}
 use Rattle.driver.specs.receive.Returns.{numbers_of}
 use Rattle.flows.proofs.Holds.{keeps-on, holds-on, is-held, gave-less, gave-one, moved-one}

@@ -1,4 +1,4 @@
-use Rattle.std.proofs.Common.{◌≡◌, ◌+◌, ◌≤◌, ◌++◌, length}
+use Rattle.std.proofs.Common.{◌≡◌, ◌+◌, ◌++◌, length}
 use Rattle.driver.specs.receive.Returns.{numbers_of}
 use Rattle.pool.specs.Owned.{IsOf}
 use Rattle.flows.specs.Holding.{Keeps}

@@ -1,4 +1,4 @@
-use Rattle.std.proofs.Common.{rules, ⊎_elim, inr, subst}
+use Rattle.std.proofs.Common.{⊎_elim, inr, subst}
 use Rattle.std.specs.Prelude.{IfSome}
 use Rattle.counters.specs.Paired.{ArePensOf}
 use Rattle.settings.specs.Configs.{FitsIn}
