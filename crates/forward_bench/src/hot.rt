@@ -2,9 +2,10 @@
 ghost use Rattle.settings.specs.Configs.{IsLawful};
 
 use crate::hot_flow::HotFlow;
+use crate::pace::Pace;
 use crate::sides::make_sides;
 use crate::workload::Workload;
-use anyhow::{Result, ensure};
+use anyhow::{Context, Result, ensure};
 use flows::{DriverFlow, Served, serve_flows};
 use forwarder::{Config, make_rings};
 use forwarding::Open;
@@ -39,15 +40,16 @@ fn is_whole(served: &Served<DriverFlow<'_>, HotFlow<'_>>, workload: &Workload) -
     rest == 0 && served.refusal.is_none()
 }
 
-/// Makes a pool, and the rings and both sides of each flow. Workers serve them as in the forwarder. Returns the time of
-/// their work, from their start to the last one's end.
+/// Makes a pool, and the rings and both sides of each flow. The first flow has this pace. Workers serve the flows as in
+/// the forwarder. Returns the time of their work, from their start to the last one's end, and the pace.
 fn forward_hot<R: Threads + Wait + Clock + Sync>(
     rt: &R,
     alloc: Global,
     workload: &Workload,
     config: &Config,
     frames: &[Vec<u8>],
-) -> Result<Duration>
+    pace: Option<Pace>,
+) -> Result<(Duration, Option<Pace>)>
     requires { IsLawful config.now }
 {
     let workers = config.workers as usize;
@@ -59,6 +61,7 @@ fn forward_hot<R: Threads + Wait + Clock + Sync>(
         workload,
         config,
         frames,
+        pace,
         &flow_rings,
         ends,
         &pool,
@@ -68,7 +71,21 @@ fn forward_hot<R: Threads + Wait + Clock + Sync>(
     let served = serve_flows(rt, alloc, &Open, sides.drivers, sides.controllers, workers);
     let spent = start.elapsed(rt)?;
     ensure!(is_whole(&served, workload), "not all frames were sent");
-    Ok(spent)
+    let first = served.controllers.into_iter().next();
+    Ok((spent, first.and_then(HotFlow::into_pace)))
+}
+
+/// Forwards the workload by hot flows, the first with this pace. Returns the time of the workers' work, and the pace.
+fn run<R: Threads + Wait + Clock + Sync>(
+    rt: &R,
+    alloc: Global,
+    workload: &Workload,
+    pace: Option<Pace>,
+) -> Result<(Duration, Option<Pace>)> {
+    let config = workload.config();
+    ensure!(config.is_lawful(), "the configuration is not valid");
+    let frames = workload.bytes(alloc, FRAMES)?;
+    forward_hot(rt, alloc, workload, &config, &frames, pace)
 }
 
 /// Forwards the workload by hot flows, and returns the time of the workers' work.
@@ -77,8 +94,19 @@ pub(crate) fn run_hot<R: Threads + Wait + Clock + Sync>(
     alloc: Global,
     workload: &Workload,
 ) -> Result<Duration> {
-    let config = workload.config();
-    ensure!(config.is_lawful(), "the configuration is not valid");
-    let frames = workload.bytes(alloc, FRAMES)?;
-    forward_hot(rt, alloc, workload, &config, &frames)
+    let (spent, _) = run(rt, alloc, workload, None)?;
+    Ok(spent)
+}
+
+/// Forwards the workload by hot flows, the first one at a pace. Returns the time of the workers' work, and the latencies
+/// of the first flow's frames, the shortest first.
+pub(crate) fn run_paced<R: Threads + Wait + Clock + Sync>(
+    rt: &R,
+    alloc: Global,
+    workload: &Workload,
+    pace: Pace,
+) -> Result<(Duration, Vec<Duration>)> {
+    let (spent, pace) = run(rt, alloc, workload, Some(pace))?;
+    let pace = pace.context("there is no flow")?;
+    Ok((spent, pace.into_latencies()))
 }

@@ -4,6 +4,7 @@ ghost use Rattle.flows.specs.Sides.{has_ended};
 ghost use Rattle.refusals.specs.declared.errors.ForwardError.TheVariants.{Memory};
 ghost use Rattle.shared_ring.specs.Calls.{IsFreshController};
 
+use crate::pace::Pace;
 use controller::{Offer, RxController, Tally, Turn, TxController, Wire};
 use flows::QueuePhase;
 use forwarding::{Flow, ForwardError, Gate, Progress};
@@ -18,7 +19,9 @@ const KEPT: usize = 4;
 /// The number of bytes to which buffers are filled.
 const FILL: usize = 2_048;
 
-/// The controller's side of a flow. It offers a few frames again and again, and empties its wire after a few frames.
+/// The controller's side of a flow. It offers a few frames again and again, and empties its wire after a few frames. With a
+/// pace it offers each frame when it is due; if the clock cannot be read, a turn then returns `Memory`, which ends the
+/// run.
 #[derive(Drop)]
 pub(crate) struct HotFlow<'a> {
     from: &'a RxRing,
@@ -35,18 +38,21 @@ pub(crate) struct HotFlow<'a> {
     wire: Wire,
     /// How many frames were sent.
     sent: u64,
+    /// Without a pace, each frame is due at once.
+    pace: Option<Pace>,
     ghost stores: { rx.end.table ≡ from.now },
     ghost sends: { tx.table ≡ to.now },
 }
 
 impl<'a> HotFlow<'a> {
-    /// Makes a flow to which `count` frames are offered, these again and again. The ends must be fresh.
+    /// Makes a flow to which `count` frames are offered, these again and again, at this pace. The ends must be fresh.
     pub(crate) fn new(
         alloc: Global,
         rings: (&'a RxRing, &'a TxRing),
         ends: (RxControllerEnd, TxControllerEnd),
         frames: &'a [Vec<u8>],
         count: u64,
+        pace: Option<Pace>,
     ) -> HotFlow<'a>
         requires from { ends.0.table ≡ rings.0.now }
         requires to { ends.1.table ≡ rings.1.now }
@@ -64,7 +70,13 @@ impl<'a> HotFlow<'a> {
             left: count,
             wire: Wire::new(alloc),
             sent: 0,
+            pace,
         }
+    }
+
+    /// The pace, with the latencies of the frames that were sent.
+    pub(crate) fn into_pace(self) -> Option<Pace> {
+        self.pace
     }
 
     /// The counts of the offered frames, and the number of frames that were sent.
@@ -86,29 +98,49 @@ impl<'a> HotFlow<'a> {
         was != (self.receiving, self.sending)
     }
 
-    /// Offers the next frame, or, after the last one, says that no more comes. Returns whether that succeeded.
-    fn offer(&mut self) -> bool {
+    /// Whether the next frame is due.
+    fn is_due(&mut self) -> Result<bool, ForwardError>
+        ensures left { self.new.left ≡ self.old.left }
+        ensures refused { IfErr result (λ e. e ≡ Memory) }
+    {
+        match &mut self.pace {
+            None => Ok(true),
+            Some(pace) => pace.is_due().map_err(|_| ForwardError::Memory),
+        }
+    }
+
+    /// Offers the next frame once it is due, or, after the last one, says that no more comes. Returns whether that
+    /// succeeded.
+    fn offer(&mut self) -> Result<bool, ForwardError>
+        ensures { IfErr result (λ e. e ≡ Memory) }
+    {
         if self.receiving != QueuePhase::Serving {
-            return false;
+            return Ok(false);
         }
         if self.left == 0 {
-            return self.rx.finish(self.from);
+            return Ok(self.rx.finish(self.from));
+        }
+        if !self.is_due()? {
+            return Ok(false);
         }
         let Some(frame) = self.frames.get(self.next) else {
-            return false;
+            return Ok(false);
         };
         if matches!(
             self.rx.offer(self.from, frame),
             Ok(Offer::Off | Offer::Held)
         ) {
-            return false;
+            return Ok(false);
+        }
+        if let Some(pace) = &mut self.pace {
+            pace.note_stored();
         }
         self.left -= 1;
         self.next += 1;
         if self.next == self.frames.len() {
             self.next = 0;
         }
-        true
+        Ok(true)
     }
 
     /// Sends the next frame. Returns whether there was one. Empties the wire once it has `KEPT` frames.
@@ -125,6 +157,9 @@ impl<'a> HotFlow<'a> {
             self.wire.clear();
         }
         let sent = turn == Turn::Sent;
+        if sent && let Some(pace) = &mut self.pace {
+            pace.note_sent().map_err(|_| ForwardError::Memory)?;
+        }
         self.sent = self.sent.saturating_add(u64::from(sent));
         Ok(sent)
     }
@@ -151,7 +186,7 @@ impl<'a> Flow for HotFlow<'a> {
 
     fn turn<R: Wait, G: Gate>(&mut self, _rt: &R, _gate: &G) -> Result<Progress, ForwardError> {
         let asked = self.control_step();
-        let offered = self.offer();
+        let offered = self.offer()?;
         let sent = self.send()?;
         Ok(if self.has_served() {
             Progress::Over

@@ -1,15 +1,18 @@
-//! The program `forward_bench`: the cost of forwarding a frame, and a soak test, which compares the frames that leave
-//! with those that come in.
+//! The program `forward_bench`: the cost of forwarding a frame, the latency of a frame, and a soak test, which compares the
+//! frames that leave with those that come in.
 //! Depends on `forwarder`, the crates below it, and `anyhow`.
 //! Guarantees what a measurement needs to run a flow, and nothing else.
 //!
 //! It forwards a script of frames of one size, shared out to the flows in turn, and keeps the wires: the time is that of
 //! the whole call, which also makes the pool and the rings. Or it offers a few frames to each flow again and again, and
-//! empties the wires: the time is that of the workers' work alone.
+//! empties the wires: the time is that of the workers' work alone. Or it offers them to one flow at a constant rate: the
+//! latency of a frame is the time from its first offer until its controller has sent it.
 #![tactic(auto)]
 
 mod hot;
 mod hot_flow;
+mod latency;
+mod pace;
 mod sides;
 mod soak;
 mod workload;
@@ -19,6 +22,7 @@ use flows::{Ended, FlowReport};
 use forwarder::{Config, Report, forward};
 use forwarding::Open;
 use hot::run_hot;
+use latency::print_latency;
 use soak::{Soak, run_soak};
 use std::alloc::Global;
 use std::env;
@@ -32,11 +36,18 @@ use workload::Workload;
 
 const USAGE: &str =
     "Usage: forward_bench --ring N --frames N --size N --batch N --flows N --workers N --keep N
+       forward_bench --latency N --ring N --size N --batch N
        forward_bench --soak N --part N
 
-Forwards frames and prints the cost of a frame. With --soak, forwards them over 4 flows with 2 workers on each
-side, part by part, and compares the frames that leave with those that come in. Prints a line for each part,
-and finally how many parts were right.
+Forwards frames and prints the cost of a frame.
+
+With --latency, forwards frames over one flow with one worker on each side, first at the maximum rate, and then
+at 10, 50, 90 and 100 % of it. Prints a line for each of these four rates: the frames per second, and the
+median, the 99th percentile and the maximum of the latency in nanoseconds. The latency of a frame is the time
+from its first offer until it is on the wire.
+
+With --soak, forwards frames over 4 flows with 2 workers on each side, part by part, and compares the frames
+that leave with those that come in. Prints a line for each part, and finally how many parts were right.
 
   --ring     descriptors of each ring, a power of two from 8 to 4096
   --frames   number of frames of all flows together, 1 to 1000000
@@ -45,11 +56,13 @@ and finally how many parts were right.
   --flows    number of flows that have frames: 1, 2, 4, 8 or 16
   --workers  worker threads on each side, 1 to the number of flows; with one flow 1 or 2
   --keep     1: the frames of a script, wires are kept; 0: 256 frames again and again, wires are dropped
+  --latency  number of frames at each rate, 1 to 1000000
   --soak     the least number of frames to forward, from 1
   --part     frames of each part, 1 to 1000000
 
 Examples:
   forward_bench --ring 512 --frames 200000 --size 60 --batch 32 --flows 2 --workers 1 --keep 1
+  forward_bench --latency 200000 --ring 512 --size 60 --batch 32
   forward_bench --soak 20000000 --part 500000";
 
 /// Whether all frames of a flow were sent.
@@ -116,6 +129,10 @@ fn main(rt: HostRuntime) -> Result<ExitCode> {
     let words: Vec<String> = env::args(&rt)?.skip(1).collect(rt.alloc())?;
     if let Some(workload) = Workload::of(words.as_slice()) {
         print_cost(&rt, rt.alloc(), &workload)?;
+        return Ok(ExitCode::SUCCESS);
+    }
+    if let Some(workload) = Workload::of_latency(words.as_slice()) {
+        print_latency(&rt, rt.alloc(), rt, &workload)?;
         return Ok(ExitCode::SUCCESS);
     }
     let Some(soak) = Soak::of(words.as_slice()) else {

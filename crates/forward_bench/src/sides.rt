@@ -6,6 +6,7 @@ ghost use Rattle.settings.specs.Configs.{IsLawful};
 ghost use Rattle.forwarder.specs.Rings.{AreEnds};
 
 use crate::hot_flow::HotFlow;
+use crate::pace::Pace;
 use crate::workload::Workload;
 use anyhow::Result;
 use flows::DriverFlow;
@@ -14,11 +15,12 @@ use pool::{Pool, PoolPass};
 use std::alloc::Global;
 use std::sync::Wait;
 
-/// The frames that are offered to a flow: these again and again, `count` in all.
-#[derive(Clone, Copy)]
+/// The frames that are offered to a flow: these again and again, `count` in all, at this pace.
+#[derive(Drop)]
 struct Feed<'a> {
     frames: &'a [Vec<u8>],
     count: u64,
+    pace: Option<Pace>,
 }
 
 /// Makes both sides of a flow, the driver's first. Splits off a pass for the driver's side.
@@ -48,17 +50,19 @@ fn make_side<'a, R: Wait>(
         (ends.stores, ends.sends),
         feed.frames,
         feed.count,
+        feed.pace,
     );
     (driver, controller)
 }
 
-/// Makes both sides of each flow. Splits off a pass for each driver.
+/// Makes both sides of each flow. The first flow has this pace. Splits off a pass for each driver.
 pub(crate) fn make_sides<'a, R: Wait>(
     rt: &R,
     alloc: Global,
     workload: &Workload,
     config: &Config,
     frames: &'a [Vec<u8>],
+    mut pace: Option<Pace>,
     flow_rings: &'a [FlowRings],
     ends: Vec<FlowRingEnds>,
     pool: &'a Pool,
@@ -75,7 +79,12 @@ pub(crate) fn make_sides<'a, R: Wait>(
     let mut number = 0;
     for own in ends {
         let count = workload.frames_of(number);
-        let feed = Feed { frames, count };
+        let pace = pace.take();
+        let feed = Feed {
+            frames,
+            count,
+            pace,
+        };
         let rings = &flow_rings[number];
         let (driver, controller) = make_side(
             rt, alloc, config, number, feed, rings, own, pool, pass,

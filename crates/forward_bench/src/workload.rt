@@ -42,6 +42,20 @@ impl Workload {
         (words.len() == 14 && workload.is_lawful()).then_some(workload)
     }
 
+    /// Parses the words of a measurement of latencies: frames of one flow, with one worker on each side.
+    pub fn of_latency(words: &[String]) -> Option<Workload> {
+        let workload = Workload {
+            frames: number_of(words, "--latency")?,
+            flows: 1,
+            size: number_of(words, "--size")?,
+            ring: number_of(words, "--ring")?,
+            batch: number_of(words, "--batch")?,
+            workers: 1,
+            keeps: false,
+        };
+        (words.len() == 8 && workload.is_lawful()).then_some(workload)
+    }
+
     fn is_lawful(&self) -> bool {
         (1..=MOST_SCRIPT_FRAMES).contains(&(self.frames as usize))
             && (LEAST_FRAME..=MOST_FRAME).contains(&(self.size as usize))

@@ -1,4 +1,4 @@
-use Rattle.std.proofs.Common.{rules, ◌≡◌, ◌∙◌, ◌<◌, length, get_or, ap, sym, subst, arith}
+use Rattle.std.proofs.Common.{rules, ◌≡◌, ◌∙◌, ◌<◌, length, get_or, sym, subst, arith}
 use Rattle.forwarder.proofs.Plans.{drop-first, drop-later, drop-within}
 use Rattle.forwarder.specs.Rings.{AreEnds}
 use Rattle.forward_bench.proofs.sides.make_sides.Goals as goal
