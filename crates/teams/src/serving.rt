@@ -16,8 +16,8 @@ use std::{hint, thread};
 const SPINS: u32 = 64;
 
 /// The most spins for which a worker waits that finds little in one round after another, so that the other side gets
-/// ahead, and both move the lines that they share less often. After the first of these rounds it doesn't wait, so a frame
-/// that comes alone is not delayed; after each further one it waits twice as long.
+/// ahead, and both move the lines that they share less often. After the first of these rounds it doesn't wait; after each
+/// further one it waits twice as long. A frame that comes during a wait is delayed until its end.
 const MOST_SPINS: u32 = 1_023;
 
 /// The flows of a worker, and how its work ended.

@@ -30,7 +30,7 @@ const RECORD_HEADER: usize = 16;
 /// timestamp of k microseconds. It is allocated once.
 ///
 /// Returns `Memory`, or `Capture` if a frame's length is not 14 to 15,000 bytes or there are more than
-/// [`MOST_SCRIPT_FRAMES`] frames. The report of a forwarded script has no such frames.
+/// [`MOST_SCRIPT_FRAMES`] frames. All frames of a script have such a length, and only repeated ones are so many.
 pub fn wire_capture(
     alloc: Global,
     flows: &[FlowReport],
