@@ -4,3 +4,4 @@ pub mod Stepping
 pub mod Growing
 pub mod Laying
 pub mod Putting
+pub mod PuttingInto

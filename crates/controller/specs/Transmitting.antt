@@ -1,5 +1,5 @@
 -- The behaviour of the device's side of a transmit queue.
-use Rattle.std.specs.Prelude.{◌≡◌, ℕ, ◌+◌, ◌%◌, ◌<◌, Bool, true, false, List, [], ◌∷◌, ◌++◌, length, None, Result, Ok, Err}
+use Rattle.std.specs.Prelude.{◌≡◌, ℕ, ◌+◌, ◌%◌, ◌<◌, Bool, true, false, List, [], ◌∷◌, ◌++◌, length, drop, None, Result, Ok, Err}
 use Rattle.buffer_pool.specs.Buffer.{Buffer}
 use Rattle.ring_model.specs.shared.Frames.{Bytes, ends_frame, frames, join}
 use Rattle.ring_model.specs.shared.Handshakes.{is_serving}
@@ -13,6 +13,8 @@ use Rattle.refusals.specs.declared.errors.CtlError.{CtlError}
 use Rattle.refusals.specs.declared.errors.CtlError.TheVariants.{FrameLength, Memory}
 use Rattle.controller.specs.declared.transmitting.Turn.{Turn}
 use Rattle.controller.specs.declared.transmitting.Turn.TheVariants as turn
+use Rattle.controller.specs.declared.sending_into.TurnInto.{TurnInto}
+use Rattle.controller.specs.declared.sending_into.TurnInto.TheVariants as into
 use Rattle.controller.specs.Chained.{Chained}
 
 -- Nothing is held, the last sent segment ends a frame, the head is stored after it while the end serves, and no report
@@ -87,3 +89,23 @@ Turned old wire (Ok turn.Idle) new wire' = WasIdle old wire new wire'
 Turned old wire (Ok turn.Sent) new wire' = WasSent old wire new wire'
 Turned old wire (Err Memory) new wire' = WasRefused old wire new wire'
 Turned old wire (Err FrameLength) new wire' = ⊥
+
+-- The results of `turn_into`. The next frame was sent, as onto an empty wire, and is at the beginning of the room.
+pub record WasPlaced (old : ControllerSide) (room : Bytes) (len : ℕ) (new : ControllerSide) (room' : Bytes) : Type 0 where
+  pub frame : Bytes
+  pub was : WasSent old [] new (frame ∷ [])
+  pub len_is : len ≡ length frame
+  pub copied : room' ≡ frame ++ drop (length frame) room
+
+-- The next frame was sent onto the wire, because it is longer than the room.
+pub record WasTooLong (old : ControllerSide) (wire : List Bytes) (room : Bytes) (new : ControllerSide) (wire' : List Bytes) : Type 0 where
+  pub was : WasSent old wire new wire'
+  pub long : length room < length was.frame
+
+abbrev pub TurnedInto : ControllerSide → List Bytes → Bytes → Result TurnInto CtlError → ControllerSide → List Bytes → Bytes → Type 0
+TurnedInto old wire room (Ok into.Off) new wire' room' = WasOff old wire new wire' × (room' ≡ room)
+TurnedInto old wire room (Ok into.Idle) new wire' room' = WasIdle old wire new wire' × (room' ≡ room)
+TurnedInto old wire room (Ok (into.InRoom len)) new wire' room' = WasPlaced old room len new room' × (wire' ≡ wire)
+TurnedInto old wire room (Ok into.OnWire) new wire' room' = WasTooLong old wire room new wire' × (room' ≡ room)
+TurnedInto old wire room (Err Memory) new wire' room' = WasRefused old wire new wire' × (room' ≡ room)
+TurnedInto old wire room (Err FrameLength) new wire' room' = ⊥

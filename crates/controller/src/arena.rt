@@ -52,6 +52,23 @@ impl Arena {
         ensures room { OnOk result (MOST_FRAME ≤ self.new.room) }
         ensures entries { OnOk result (0 < self.new.entries) }
     {
+        if self.bytes.capacity() - self.bytes.len() < MOST_FRAME
+            || self.ends.len() == self.ends.capacity()
+        {
+            return self.grow();
+        }
+        Ok(())
+    }
+
+    /// Grows the list of ends if it is full, and the block if it has no room for the longest frame.
+    #[cold]
+    #[inline(never)]
+    fn grow(&mut self) -> Result<(), AllocError>
+        ensures frames { self.new.frames ≡ self.old.frames }
+        ensures begun { self.new.begun ≡ self.old.begun }
+        ensures room { OnOk result (MOST_FRAME ≤ self.new.room) }
+        ensures entries { OnOk result (0 < self.new.entries) }
+    {
         if self.bytes.capacity() - self.bytes.len() < MOST_FRAME {
             let more = (self.bytes.capacity() / 4).max(LEAST_GROWTH);
             self.bytes.reserve_exact(more)?;

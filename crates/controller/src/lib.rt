@@ -6,7 +6,7 @@
 //!
 //! An [`RxController`] is offered incoming frames and stores each whole or not at all: it cuts the frame into segments,
 //! fetches a descriptor and writes it back for each, and then stores the head once. A [`TxController`] sends whole
-//! frames onto a [`Wire`], which keeps them in order. Only `turn` allocates.
+//! frames onto a [`Wire`], which keeps them in order, or into a caller's bytes. Only `turn` and `turn_into` allocate.
 #![tactic(auto)]
 
 mod arena;
@@ -14,6 +14,7 @@ mod control;
 mod offer;
 mod receiving;
 mod sending;
+mod sending_into;
 mod storing;
 mod tally;
 mod transmitting;
@@ -24,5 +25,6 @@ pub use limits::is_fill_size;
 pub use offer::Offer;
 pub use receiving::RxController;
 pub use refusals::CtlError;
+pub use sending_into::TurnInto;
 pub use transmitting::{Turn, TxController};
 pub use wire::{Frames, Wire};

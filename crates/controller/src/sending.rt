@@ -1,10 +1,10 @@
 //! Sending a frame.
-ghost use Rattle.std.specs.Prelude.{◌≡◌, ◌<◌, ◌≤◌, true, []};
+ghost use Rattle.std.specs.Prelude.{◌≡◌, ◌<◌, ◌≤◌, true, false, []};
 ghost use Rattle.limits.specs.declared.profile.TheConstants.{MOST_FRAME};
 ghost use Rattle.ring_model.specs.shared.Handshakes.{is_serving};
-ghost use Rattle.tx_ring.specs.Ends.{controller_state, known_ready, seen};
+ghost use Rattle.tx_ring.specs.Ends.{controller_record, controller_state, is_owed, known_ready, seen};
 ghost use Rattle.controller.specs.Sending.{CanSend, SentBytes, SentOn};
-ghost use Rattle.controller.specs.Transmitting.{IsIdle};
+ghost use Rattle.controller.specs.Transmitting.{IsIdle, reported};
 
 use crate::arena::Arena;
 use tx_ring::{TxControllerEnd, TxRing};
@@ -26,9 +26,7 @@ pub(crate) fn send_frame(ring: &TxRing, end: &mut TxControllerEnd, arena: &mut A
 {
     while !send_segment(ring, end, arena) {}
     arena.end_frame();
-    if end.owes_report() {
-        end.report(ring);
-    }
+    settle(ring, end);
 }
 
 /// Sends the next segment, and returns whether it ends its frame.
@@ -42,4 +40,16 @@ fn send_segment(ring: &TxRing, end: &mut TxControllerEnd, arena: &mut Arena) -> 
     arena.append(buf.bytes());
     end.give_back(ring, buf);
     read.eop
+}
+
+/// Reports what was sent last, if that is owed.
+#[inline]
+pub(crate) fn settle(ring: &TxRing, end: &mut TxControllerEnd)
+    requires own { end.old.table ≡ ring.now }
+    ensures step { end.new ≡ reported (is_owed end.old) end.old }
+    ensures record { controller_record end.new ≡ record (controller_record end.old) { barred = false } }
+{
+    if end.owes_report() {
+        end.report(ring);
+    }
 }

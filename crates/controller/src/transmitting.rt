@@ -29,7 +29,7 @@ pub enum Turn {
 /// two frames.
 #[derive(Drop)]
 pub struct TxController {
-    end: TxControllerEnd,
+    pub(crate) end: TxControllerEnd,
 }
 
 impl Model for TxController {

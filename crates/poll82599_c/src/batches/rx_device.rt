@@ -30,6 +30,7 @@ impl Half<RxRing, RxController> {
 
     /// Loads the control word, and answers a request if it can. Returns the word that it stored, otherwise the one that
     /// it loaded: 0 off, 1 enabling asked for, 2 on, 3 disabling asked for.
+    #[inline(never)]
     pub(crate) fn turn_control(&mut self) -> u32
         ensures own { self.new.end.table ≡ self.old.end.table }
         ensures step { Turned result self.old self.new }

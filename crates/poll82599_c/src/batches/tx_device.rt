@@ -5,7 +5,7 @@ ghost use Rattle.poll82599_c.specs.batches.Transmitting.{IsAtHand, SendingDevice
 
 use crate::batches::found::Found;
 use crate::half::Half;
-use controller::{Turn, TxController, Wire};
+use controller::{TurnInto, TxController, Wire};
 use ffi_handle::overwrite;
 use std::alloc::Global;
 use std::marker::Model;
@@ -52,6 +52,8 @@ impl Sender {
 
     /// Copies the frame that waits to the beginning of `room`, and removes it from the wire. Returns 1 and its length, or 4
     /// and its length if it is longer than `room`; then it waits on.
+    #[cold]
+    #[inline(never)]
     #[tactic(auto, using(crate::proofs::Turning::only_frame))]
     fn hand_out(&mut self, room: &mut [u8]) -> Found
         requires waits { 0 < length self.old.waiting }
@@ -70,9 +72,9 @@ impl Sender {
 }
 
 impl Half<TxRing, Sender> {
-    /// Sends the next frame, unless one waits, and reports it if it asks for a report. Then copies the frame into `room`.
-    /// Returns 1 and its length: it is there; 0: none is ready; 3: the queue is off; 4 and its length: it is longer than
-    /// `room`, and waits for the next call; 5: memory was refused.
+    /// Sends the next frame into `room`, unless one waits, and reports it if it asks for a report. Copies a frame that
+    /// waits into `room`. Returns 1 and its length: it is there; 0: none is ready; 3: the queue is off; 4 and its length:
+    /// it is longer than `room`, and waits for the next call; 5: memory was refused.
     #[tactic(auto, using(crate::proofs::Turning::sent_whole, crate::proofs::Turning::one_frame))]
     pub(crate) fn turn(&mut self, room: &mut [u8]) -> Found
         ensures own { self.new.end.table ≡ self.old.end.table }
@@ -81,16 +83,22 @@ impl Half<TxRing, Sender> {
         if !self.end.wire.is_empty() {
             return self.end.hand_out(room);
         }
-        match self.end.controller.turn(&self.ring, &mut self.end.wire) {
-            Ok(Turn::Sent) => self.end.hand_out(room),
-            Ok(Turn::Idle) => Found::nothing(0),
-            Ok(Turn::Off) => Found::nothing(3),
+        match self
+            .end
+            .controller
+            .turn_into(&self.ring, room, &mut self.end.wire)
+        {
+            Ok(TurnInto::InRoom(count)) => Found { answer: 1, count },
+            Ok(TurnInto::OnWire) => self.end.hand_out(room),
+            Ok(TurnInto::Idle) => Found::nothing(0),
+            Ok(TurnInto::Off) => Found::nothing(3),
             Err(_) => Found::nothing(5),
         }
     }
 
     /// Loads the control word, and answers a request if it can. Returns the word that it stored, otherwise the one that
     /// it loaded: 0 off, 1 enabling asked for, 2 on, 3 disabling asked for.
+    #[inline(never)]
     pub(crate) fn turn_control(&mut self) -> u32
         ensures own { self.new.end.table ≡ self.old.end.table }
         ensures step { Turned result self.old self.new }
