@@ -1,6 +1,6 @@
 //! Storing a frame.
 ghost use Rattle.std.specs.Prelude.{◌≡◌, ◌<◌, ◌≤◌, true, false, length, None};
-ghost use Rattle.limits.specs.declared.profile.TheConstants.{BUFFER_BYTES};
+ghost use Rattle.limits.specs.declared.profile.TheConstants.{BUFFER_BYTES, MOST_FRAME};
 ghost use Rattle.ring_model.specs.shared.Frames.{Follows, HasFrameLength, piece_count, unfinished};
 ghost use Rattle.ring_model.specs.shared.Handshakes.{is_serving};
 ghost use Rattle.ring_model.specs.shared.Segments.{piece_of};
@@ -34,7 +34,7 @@ pub(crate) fn decide(
     if !end.is_serving() || end.has_finished() {
         return Offer::Off;
     }
-    let needed = ((frame.len() + bsize - 1) / bsize) as u32;
+    let needed = descriptors(bsize, frame.len());
     if end.size() <= needed {
         return Offer::Oversize;
     }
@@ -43,6 +43,20 @@ pub(crate) fn decide(
     }
     store_frame(ring, end, bsize, frame);
     Offer::Stored
+}
+
+/// How many descriptors a frame of `len` bytes needs. A frame of one piece, the common case, is not divided.
+#[inline]
+fn descriptors(bsize: usize, len: usize) -> u32
+    requires least { 1024 ≤ bsize }
+    requires some_bytes { 0 < len }
+    requires few_bytes { len ≤ MOST_FRAME }
+    ensures { result ≡ piece_count bsize len }
+{
+    if len <= bsize {
+        return 1;
+    }
+    ((len + bsize - 1) / bsize) as u32
 }
 
 /// Stores a frame in the next descriptors, which are free, and then the head.
