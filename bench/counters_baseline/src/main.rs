@@ -3,7 +3,7 @@
 
 mod cell;
 
-use cell::{Cell, Numbers};
+use cell::{Array, Cell, Numbers, Table, Words};
 use std::hint::black_box;
 use std::sync::Arc;
 use std::time::{Duration, Instant};
@@ -13,8 +13,8 @@ fn all_stored(frames: u64) -> Numbers {
     [frames, frames, 0, 0]
 }
 
-fn reads_alone(reads: u32) -> Duration {
-    let cell = Arc::new(Cell::new());
+fn reads_alone<W: Words>(reads: u32) -> Duration {
+    let cell = Arc::new(Cell::<W>::new());
     cell.write(all_stored(1));
     let start = Instant::now();
     for _ in 0..reads {
@@ -23,13 +23,13 @@ fn reads_alone(reads: u32) -> Duration {
     start.elapsed()
 }
 
-fn write_all(cell: &Cell, writes: u32) {
+fn write_all<W: Words>(cell: &Cell<W>, writes: u32) {
     for written in 0..writes {
         cell.write(all_stored(u64::from(written) + 1));
     }
 }
 
-fn read_until(cell: &Cell, writes: u32) -> u64 {
+fn read_until<W: Words>(cell: &Cell<W>, writes: u32) -> u64 {
     let mut reads = 0;
     loop {
         let now = cell.read();
@@ -40,8 +40,8 @@ fn read_until(cell: &Cell, writes: u32) -> u64 {
     }
 }
 
-fn writes_beside(writes: u32, readers: u32) -> (Duration, u64) {
-    let cell = Arc::new(Cell::new());
+fn writes_beside<W: Words + Send + Sync>(writes: u32, readers: u32) -> (Duration, u64) {
+    let cell = Arc::new(Cell::<W>::new());
     let start = Instant::now();
     let reads = thread::scope(|scope| {
         let reading: Vec<_> = (0..readers).map(|_| scope.spawn(|| read_until(&cell, writes))).collect();
@@ -60,20 +60,28 @@ fn each(spent: Duration, count: f64) -> f64 {
     spent.as_secs_f64() * 1e9 / count
 }
 
-fn main() {
-    let words: Vec<String> = env::args().skip(1).collect();
-    if let Some(reads) = number_of(&words, "--reads") {
-        println!("read ns {:.1}", each(reads_alone(reads), f64::from(reads)));
+fn run<W: Words + Send + Sync>(words: &[String]) {
+    if let Some(reads) = number_of(words, "--reads") {
+        println!("read ns {:.1}", each(reads_alone::<W>(reads), f64::from(reads)));
         return;
     }
-    let (Some(writes), Some(readers)) = (number_of(&words, "--writes"), number_of(&words, "--readers")) else {
-        eprintln!("Usage: counters_baseline --writes N --readers N, or counters_baseline --reads N");
+    let (Some(writes), Some(readers)) = (number_of(words, "--writes"), number_of(words, "--readers")) else {
+        eprintln!("Usage: counters_baseline --writes N --readers N [--table], or counters_baseline --reads N [--table]");
         process::exit(2);
     };
-    let (spent, reads) = writes_beside(writes, readers);
+    let (spent, reads) = writes_beside::<W>(writes, readers);
     println!("readers {readers}");
     println!("write ns {:.1}", each(spent, f64::from(writes)));
     if 0 < readers {
         println!("read ns {:.1}", each(spent, reads as f64 / f64::from(readers)));
+    }
+}
+
+fn main() {
+    let words: Vec<String> = env::args().skip(1).collect();
+    if words.iter().any(|word| word == "--table") {
+        run::<Table>(&words);
+    } else {
+        run::<Array>(&words);
     }
 }
