@@ -13,7 +13,6 @@ use Rattle.forward_io.specs.Text.{wires_of}
 abbrev pub port_capture : ℕ → ℕ → List FlowReport → List ℕ
 port_capture port pairs flows = capture_of (records_of_port port (wires_of (take pairs flows) (drop pairs flows)))
 
--- memory is missing, or a frame, counted from 1, does not fit a capture: for its length, or because there are too many
+-- memory is missing, or a frame, counted from 1, has a length that does not fit a capture
 abbrev pub IsUncaptured : Refusal → Type 0
-IsUncaptured e =
-    (e ≡ refusal.Memory) ⊎ ((k : ℕ) × ((e ≡ refusal.Capture (errors.FrameLength k)) ⊎ (e ≡ refusal.Capture (errors.TooMany k))))
+IsUncaptured e = (e ≡ refusal.Memory) ⊎ ((k : ℕ) × (e ≡ refusal.Capture (errors.FrameLength k)))

@@ -5,7 +5,7 @@ ghost use Rattle.capture.specs.Writing.{capture_of, record_bytes};
 ghost use Rattle.capture.specs.Records.{record_at, records_from};
 ghost use Rattle.requests.specs.declared.refusal.Refusal.TheVariants.{Memory};
 ghost use Rattle.forward_io.specs.Text.{wires_from};
-ghost use Rattle.limits.specs.declared.profile.TheConstants.{MOST_PAIRS, MOST_SCRIPT_FRAMES, PORTS};
+ghost use Rattle.limits.specs.declared.profile.TheConstants.{MOST_PAIRS, PORTS};
 ghost use Rattle.wire_script.specs.Frame.{frame_of};
 ghost use Rattle.forward_io.specs.Wires.{IsUncaptured, port_capture};
 
@@ -13,7 +13,7 @@ use crate::outputs::leaving;
 use capture::{CaptureError, CaptureRecord, write_header, write_record};
 use controller::Wire;
 use forwarding::FlowReport;
-use limits::{LEAST_FRAME, MOST_FRAME, MOST_SCRIPT_FRAMES};
+use limits::{LEAST_FRAME, MOST_FRAME};
 use requests::Refusal;
 use std::alloc::Global;
 
@@ -29,8 +29,8 @@ const RECORD_HEADER: usize = 16;
 /// has the wires of the flows that leave there, queues ascending; frame k, counted from 0, has a
 /// timestamp of k microseconds. It is allocated once.
 ///
-/// Returns `Memory`, or `Capture` if a frame's length is not 14 to 15,000 bytes or there are more than
-/// [`MOST_SCRIPT_FRAMES`] frames. All frames of a script have such a length, and only repeated ones are so many.
+/// Returns `Memory`, also for 2³² frames or more, or `Capture` if a frame's length is not 14 to 15,000 bytes. All frames of
+/// a script have such a length.
 pub fn wire_capture(
     alloc: Global,
     flows: &[FlowReport],
@@ -82,7 +82,7 @@ fn write_wire(bytes: &mut Vec<u8>, number: u32, wire: &Wire) -> Result<u32, Refu
     let mut at = number;
     for frame in wire.iter() {
         write_frame(bytes, at, frame)?;
-        at += 1;
+        at = at.checked_add(1).ok_or(Refusal::Memory)?;
     }
     Ok(at)
 }
@@ -90,14 +90,10 @@ fn write_wire(bytes: &mut Vec<u8>, number: u32, wire: &Wire) -> Result<u32, Refu
 /// Writes a frame's record, at `number` microseconds.
 fn write_frame(bytes: &mut Vec<u8>, number: u32, frame: &[u8]) -> Result<(), Refusal>
     ensures written { OnOk result (bytes.new.items ≡ bytes.old.items ++ record_bytes (record_at number (frame_of 0 0 frame.now))) }
-    ensures few { OnOk result (number < MOST_SCRIPT_FRAMES) }
     ensures refused { IfErr result (λ e. IsUncaptured e) }
 {
-    let place = u64::from(number) + 1;
-    if number as usize >= MOST_SCRIPT_FRAMES {
-        return Err(Refusal::Capture(CaptureError::TooMany { number: place }));
-    }
     if frame.len() < LEAST_FRAME || MOST_FRAME < frame.len() {
+        let place = u64::from(number) + 1;
         return Err(Refusal::Capture(CaptureError::FrameLength { number: place }));
     }
     let found = CaptureRecord::new(number / SECOND, number % SECOND, frame);
