@@ -1,5 +1,6 @@
 //! How a thread waits for another.
 
+use std::time::{Duration, Instant};
 use std::{hint, thread};
 
 /// After this many unsuccessful tries in a row, a thread lets another one run.
@@ -27,30 +28,35 @@ impl Patience {
     }
 }
 
-/// The most spins between two rounds with little work.
-const MOST_SPINS: u32 = 1_023;
+/// The longest and the shortest wait between two rounds with little work, in nanoseconds.
+const LONGEST_WAIT: u64 = 1_000;
+const SHORTEST_WAIT: u64 = 50;
 
 /// Waits after rounds with little work, after each twice as long as after the one before.
 #[derive(Default)]
 pub struct Restraint {
-    spins: u32,
+    nanos: u64,
 }
 
 impl Restraint {
     pub fn wait(&mut self) {
-        for _ in 0..self.spins {
-            hint::spin_loop();
+        if self.nanos > 0 {
+            let start = Instant::now();
+            let time = Duration::from_nanos(self.nanos);
+            while start.elapsed() < time {
+                hint::spin_loop();
+            }
         }
-        self.spins = (2 * self.spins + 1).min(MOST_SPINS);
+        self.nanos = (2 * self.nanos + SHORTEST_WAIT).min(LONGEST_WAIT);
     }
 
     /// Halves the next wait, after a round with much work.
     pub fn ease(&mut self) {
-        self.spins /= 2;
+        self.nanos /= 2;
     }
 
     /// Ends the waiting, after a round without work.
     pub fn reset(&mut self) {
-        self.spins = 0;
+        self.nanos = 0;
     }
 }

@@ -30,6 +30,7 @@ use one_frame::passed;
 use pool::Pool;
 use queue_pair::forwarded;
 use std::alloc::Global;
+use std::rt::Clock;
 use std::sync::Wait;
 use std::thread::Threads;
 use two_threads::{FRAME, FRAMES, pass};
@@ -62,7 +63,7 @@ fn tell_closed<R: Print>(rt: &R, alloc: Global, frame: &Frame) -> Result<()> {
 }
 
 /// Prints how many frames go through one ring between two threads.
-fn tell_threads<R: Threads + Wait + Sync + Print>(rt: &R, alloc: Global) -> Result<()> {
+fn tell_threads<R: Threads + Wait + Clock + Sync + Print>(rt: &R, alloc: Global) -> Result<()> {
     let taken = pass(rt, alloc, &FRAME, FRAMES)?;
     println!(rt; "{taken} frames of {} bytes were taken", FRAME.len())?;
     Ok(())
@@ -77,7 +78,7 @@ fn tell_gated<R: Print>(rt: &R, alloc: Global, frame: &Frame) -> Result<()> {
 }
 
 /// Prints the numbers that a watcher saw while a forwarder ran.
-fn tell_watched<R: Threads + Wait + Sync + Print>(rt: &R, alloc: Global) -> Result<()> {
+fn tell_watched<R: Threads + Wait + Clock + Sync + Print>(rt: &R, alloc: Global) -> Result<()> {
     let seen = watched(rt, alloc, b"0 0 fill 60 01\n0 0 fill 60 02\n", 2)?;
     println!(rt;
         "saw {} frames stored, and {} went out",

@@ -8,6 +8,7 @@ use counters::{CounterError, DriveCell, FlowCells, FlowPens, StatCell, StatPass,
 use forwarder::{Config, Report, forward_watched};
 use forwarding::{ForwardError, Open};
 use std::alloc::{AllocError, Global};
+use std::rt::Clock;
 use std::sync::Wait;
 use std::thread;
 use std::thread::Threads;
@@ -53,7 +54,7 @@ fn watch<R: Wait>(rt: &R, cell: &StatCell, mut pass: StatPass, count: u64) -> Ta
 }
 
 /// Forwards a script while another thread watches the cell of a flow.
-fn run<R: Threads + Wait + Sync>(
+fn run<R: Threads + Wait + Clock + Sync>(
     rt: &R,
     alloc: Global,
     script: &Script,
@@ -82,7 +83,7 @@ fn run<R: Threads + Wait + Sync>(
 
 /// Forwards a script that has `count` frames of flow 0. Returns the counters that were read last, and how many frames
 /// went out.
-pub fn watched<R: Threads + Wait + Sync>(
+pub fn watched<R: Threads + Wait + Clock + Sync>(
     rt: &R,
     alloc: Global,
     text: &[u8],
@@ -95,7 +96,7 @@ pub fn watched<R: Threads + Wait + Sync>(
 }
 
 /// Does the same with a parsed script, and with the cells of two flows.
-fn watched_script<R: Threads + Wait + Sync>(
+fn watched_script<R: Threads + Wait + Clock + Sync>(
     rt: &R,
     alloc: Global,
     script: &Script,

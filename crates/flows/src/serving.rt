@@ -6,6 +6,7 @@ ghost use Rattle.teams.specs.Refusals.{Halted};
 
 use forwarding::{Flow, ForwardError, Gate};
 use std::alloc::{AllocError, Global};
+use std::rt::Clock;
 use std::sync::Wait;
 use std::thread::Threads;
 use teams::{deal, empty_hands, gather, run_teams};
@@ -57,7 +58,7 @@ fn deal_flows<F: Flow>(flows: Vec<F>, hands: Vec<Vec<F>>) -> Vec<Vec<F>>
 /// or one of them is refused. Joins every worker that was started before it returns, and reports the first refusal that
 /// stopped the others. Returns all flows, even after a refusal.
 #[tactic(auto, using(crate::proofs::Dealing::memory_halted))]
-pub fn serve_flows<D: Flow, C: Flow, R: Threads + Wait + Sync, G: Gate + Sync>(
+pub fn serve_flows<D: Flow, C: Flow, R: Threads + Wait + Clock + Sync, G: Gate + Sync>(
     rt: &R,
     alloc: Global,
     gate: &G,

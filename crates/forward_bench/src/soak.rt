@@ -16,6 +16,7 @@ use limits::MOST_SCRIPT_FRAMES;
 use parts::run_part;
 use seen::Seen;
 use std::alloc::Global;
+use std::rt::Clock;
 use std::sync::Wait;
 use std::thread::Threads;
 
@@ -45,7 +46,7 @@ impl Soak {
 }
 
 /// Runs all parts, and prints the result of each. Returns whether all were right.
-pub fn run_soak<R: Threads + Wait + Sync + Print>(
+pub fn run_soak<R: Threads + Wait + Clock + Sync + Print>(
     rt: &R,
     alloc: Global,
     soak: Soak,

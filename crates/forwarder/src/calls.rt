@@ -23,6 +23,7 @@ use forwarding::{ForwardError, Gate};
 use pool::{Pool, PoolPass};
 use settings::Config;
 use std::alloc::Global;
+use std::rt::Clock;
 use std::sync::Wait;
 use std::sync::atomic::AtomicBool;
 use std::thread::Threads;
@@ -33,7 +34,7 @@ use wire_script::Script;
 ///
 /// Returns `Config` exactly if the configuration's `check` refuses, before anything is made; `Gate` only if a gate
 /// returns false; `Memory` or `Thread` if one of these was refused. All started workers are joined before it returns.
-pub fn forward<R: Threads + Wait + Sync, G: Gate + Sync>(
+pub fn forward<R: Threads + Wait + Clock + Sync, G: Gate + Sync>(
     rt: &R,
     alloc: Global,
     script: &Script,
@@ -76,7 +77,7 @@ fn make_pool<R: Wait>(
 /// started, the started ones are joined, all rings are closed, and the flows' buffers go back to the pool. A pool that was
 /// whole with what its pass holds is whole again.
 #[tactic(auto, using(crate::proofs::Whole::still_whole))]
-pub fn forward_in<R: Threads + Wait + Sync, G: Gate + Sync>(
+pub fn forward_in<R: Threads + Wait + Clock + Sync, G: Gate + Sync>(
     rt: &R,
     alloc: Global,
     script: &Script,
@@ -106,7 +107,7 @@ pub fn forward_in<R: Threads + Wait + Sync, G: Gate + Sync>(
 ///
 /// There is one entry a flow, in the order of the flows, and no pen has written anything. The pens come back with the
 /// report, and the last values that they wrote are its numbers.
-pub fn forward_watched<R: Threads + Wait + Sync, G: Gate + Sync>(
+pub fn forward_watched<R: Threads + Wait + Clock + Sync, G: Gate + Sync>(
     rt: &R,
     alloc: Global,
     script: &Script,
@@ -138,7 +139,7 @@ pub fn forward_watched<R: Threads + Wait + Sync, G: Gate + Sync>(
 /// Any thread may set `stop`. From then on each flow makes at most one more turn of its driver, and ends as cut unless it
 /// is drained: the report has all that was forwarded until then.
 #[tactic(auto, using(crate::proofs::Whole::still_whole))]
-pub fn forward_with<R: Threads + Wait + Sync, G: Gate + Sync>(
+pub fn forward_with<R: Threads + Wait + Clock + Sync, G: Gate + Sync>(
     rt: &R,
     alloc: Global,
     script: &Script,

@@ -29,6 +29,7 @@ use forwarding::{ForwardError, Gate};
 use pool::{Pool, PoolPass};
 use settings::Config;
 use std::alloc::Global;
+use std::rt::Clock;
 use std::sync::Wait;
 use std::sync::atomic::AtomicBool;
 use std::thread::Threads;
@@ -73,7 +74,7 @@ fn make_rooms(alloc: Global, flows: usize) -> Result<(Vec<FlowReport>, Vec<Stopp
 
 /// Serves both sides of all flows, with their cells if these are watched.
 #[tactic(auto, using(flows::proofs::Dealing::memory_halted))]
-fn serve_sides<'a, R: Threads + Wait + Sync, G: Gate + Sync>(
+fn serve_sides<'a, R: Threads + Wait + Clock + Sync, G: Gate + Sync>(
     rt: &R,
     alloc: Global,
     gate: &G,
@@ -112,7 +113,7 @@ fn serve_sides<'a, R: Threads + Wait + Sync, G: Gate + Sync>(
 
 /// Serves all flows over these rings until they are over, or one of them is refused.
 #[tactic(auto, using(flows::proofs::Dealing::memory_halted))]
-pub(crate) fn run_flows<R: Threads + Wait + Sync, G: Gate + Sync>(
+pub(crate) fn run_flows<R: Threads + Wait + Clock + Sync, G: Gate + Sync>(
     rt: &R,
     alloc: Global,
     job: Job<'_, G>,

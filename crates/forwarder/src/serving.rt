@@ -11,6 +11,7 @@ use counters::{FlowCells, FlowPens};
 use flows::{ControllerFlow, DriverFlow, Served, serve_flows};
 use forwarding::{ForwardError, Gate};
 use std::alloc::Global;
+use std::rt::Clock;
 use std::sync::Wait;
 use std::thread::Threads;
 
@@ -26,7 +27,7 @@ pub struct ServedWithPens<'a> {
 /// Serves both sides of all flows as [`serve_flows`] does, while their cells go on from the numbers that they show by the
 /// flows' counts. Each argument has one entry a flow, in the order of the flows, and no flow has counted anything yet.
 #[tactic(auto, using(flows::proofs::Dealing::memory_halted))]
-pub fn serve_watched<'a, R: Threads + Wait + Sync, G: Gate + Sync>(
+pub fn serve_watched<'a, R: Threads + Wait + Clock + Sync, G: Gate + Sync>(
     rt: &R,
     alloc: Global,
     gate: &G,

@@ -11,6 +11,7 @@ use crate::team::{Begun, join_each, start};
 use crate::word::{StopPass, StopWord};
 use refusals::ForwardError;
 use std::alloc::{AllocError, Global};
+use std::rt::Clock;
 use std::sync::Wait;
 use std::thread;
 use std::thread::{Scope, Threads};
@@ -30,7 +31,7 @@ pub struct Ran<D: Drop, C: Drop> {
 /// worker that was started. Reports the first refusal that set the stop word: `Memory` if an allocation was refused,
 /// `Thread` if a thread could not be started, or the refusal of a flow's turn. All flows come back, including those of
 /// a worker that could not be started.
-pub fn run_teams<D: Flow, C: Flow, R: Threads + Wait + Sync, G: Gate + Sync>(
+pub fn run_teams<D: Flow, C: Flow, R: Threads + Wait + Clock + Sync, G: Gate + Sync>(
     rt: &R,
     alloc: Global,
     gate: &G,
@@ -64,7 +65,7 @@ pub fn run_teams<D: Flow, C: Flow, R: Threads + Wait + Sync, G: Gate + Sync>(
 }
 
 /// In a scope: starts both sides' workers and joins them.
-fn run_in<'s, 'e: 's, D: Flow + 's, C: Flow + 's, R: Threads + Wait + Sync, G: Gate + Sync>(
+fn run_in<'s, 'e: 's, D: Flow + 's, C: Flow + 's, R: Threads + Wait + Clock + Sync, G: Gate + Sync>(
     scope: &'s Scope<'s, &'e ()>,
     rt: &'e R,
     alloc: Global,

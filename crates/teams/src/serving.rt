@@ -8,17 +8,25 @@ use crate::flow::{Flow, Progress};
 use crate::gate::Gate;
 use crate::status::WorkerStatus;
 use crate::word::StopWord;
+use std::rt::Clock;
 use std::sync::Wait;
+use std::time::Duration;
 use std::{hint, thread};
 
 /// The number of rounds without work for which a worker spins before it yields. On a processor of its own, the other
 /// side has mostly progressed by then.
 const SPINS: u32 = 64;
 
-/// The most spins for which a worker waits that finds little in one round after another, so that the other side gets
+/// The most nanoseconds for which a worker waits that finds little in one round after another, so that the other side gets
 /// ahead, and both move the lines that they share less often. After the first of these rounds it doesn't wait; after each
-/// further one it waits twice as long. A frame that comes during a wait is delayed until its end.
-const MOST_SPINS: u32 = 1_023;
+/// further one it waits more than twice as long. A frame that comes during a wait is delayed until its end.
+const LONGEST_WAIT: u32 = 1_000;
+
+/// The shortest of these waits, in nanoseconds: about two reads of a clock.
+const SHORTEST_WAIT: u32 = 50;
+
+/// The most reads of the clock in a wait. A clock that stands still ends it by them.
+const MOST_READS: u32 = 1_000;
 
 /// The flows of a worker, and how its work ended.
 #[derive(Drop)]
@@ -92,7 +100,7 @@ fn serve_round<F: Flow, R: Wait, G: Gate>(
 
 /// Serves the flows until all are over, or the stop word is set. While none finds anything to do, the worker spins for
 /// a while, and then yields to other threads. While none finds much, it waits a little between two rounds.
-pub(crate) fn serve<F: Flow, R: Wait, G: Gate>(
+pub(crate) fn serve<F: Flow, R: Wait + Clock, G: Gate>(
     rt: &R,
     stop: &StopWord,
     gate: &G,
@@ -108,12 +116,12 @@ pub(crate) fn serve<F: Flow, R: Wait, G: Gate>(
     ensures ending { IsSo (All (λ f. F.over f ≡ true) result.flows.items) G.answers gate.now result.status.ending }
 {
     let mut idle = 0;
-    let mut spins = 0;
+    let mut nanos = 0;
     for _ in rt.forever() {
         match serve_round(rt, stop, gate, flows.as_mut_slice(), &mut status) {
-            Round::Busy => (idle, spins) = (0, spins / 2),
-            Round::Few => (idle, spins) = (0, wait(spins)),
-            Round::Idle => (idle, spins) = (rest(idle), 0),
+            Round::Busy => (idle, nanos) = (0, nanos / 2),
+            Round::Few => (idle, nanos) = (0, wait(rt, nanos)),
+            Round::Idle => (idle, nanos) = (rest(idle), 0),
             Round::Ended => return WorkerResult { flows, status },
         }
     }
@@ -131,10 +139,27 @@ fn rest(idle: u32) -> u32 {
     }
 }
 
-/// Waits for this many spins after a round with little work. Returns for how many to wait after the next one.
-fn wait(spins: u32) -> u32 {
-    for _ in 0..spins {
-        hint::spin_loop();
+/// Waits for this many nanoseconds after a round with little work. Returns for how many to wait after the next one.
+fn wait<R: Clock>(rt: &R, nanos: u32) -> u32 {
+    if nanos > 0 {
+        spin(rt, Duration::from_nanos(u64::from(nanos)));
     }
-    spins.saturating_mul(2).saturating_add(1).min(MOST_SPINS)
+    nanos
+        .saturating_mul(2)
+        .saturating_add(SHORTEST_WAIT)
+        .min(LONGEST_WAIT)
+}
+
+/// Spins until this time is over, or the clock cannot be read.
+fn spin<R: Clock>(rt: &R, time: Duration) {
+    let Ok(start) = rt.monotonic() else {
+        return;
+    };
+    for _ in 0..MOST_READS {
+        hint::spin_loop();
+        match rt.monotonic() {
+            Ok(now) if now.saturating_sub(start) < time => {}
+            _ => return,
+        }
+    }
 }

@@ -10,6 +10,7 @@ use crate::serving::{WorkerResult, serve};
 use crate::status::WorkerStatus;
 use crate::word::StopWord;
 use refusals::ForwardError;
+use std::rt::Clock;
 use std::snapshot::Snapshot;
 use std::sync::Wait;
 use std::thread::{Promise, PromisedHandle, Scope, Threads};
@@ -36,7 +37,7 @@ type Worker<'g, F, G> = PromisedHandle<WorkerResult<F>, Serves<'g, F, G>>;
 pub(crate) type Begun<'g, F, G> = Result<Worker<'g, F, G>, WorkerResult<F>>;
 
 /// Starts a worker for a hand. Returns the hand if none can be started, or work was stopped before.
-fn begin<'s, 'e: 's, F: Flow + 's, R: Threads + Wait + Sync, G: Gate + Sync>(
+fn begin<'s, 'e: 's, F: Flow + 's, R: Threads + Wait + Clock + Sync, G: Gate + Sync>(
     scope: &'s Scope<'s, &'e ()>,
     rt: &'e R,
     stop: &'e StopWord,
@@ -81,7 +82,7 @@ fn begin<'s, 'e: 's, F: Flow + 's, R: Threads + Wait + Sync, G: Gate + Sync>(
 }
 
 /// Starts a worker for each hand, in room allocated before.
-pub(crate) fn start<'s, 'e: 's, F: Flow + 's, R: Threads + Wait + Sync, G: Gate + Sync>(
+pub(crate) fn start<'s, 'e: 's, F: Flow + 's, R: Threads + Wait + Clock + Sync, G: Gate + Sync>(
     scope: &'s Scope<'s, &'e ()>,
     rt: &'e R,
     stop: &'e StopWord,

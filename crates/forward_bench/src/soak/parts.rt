@@ -5,6 +5,7 @@ use anyhow::Result;
 use forwarder::{Config, forward};
 use forwarding::Open;
 use std::alloc::Global;
+use std::rt::Clock;
 use std::sync::Wait;
 use std::thread::Threads;
 use tx_ring::Completion;
@@ -35,7 +36,7 @@ fn config_of(part: u32) -> Config {
 }
 
 /// Forwards the script once, and prints the result.
-pub fn run_part<R: Threads + Wait + Sync + Print>(
+pub fn run_part<R: Threads + Wait + Clock + Sync + Print>(
     rt: &R,
     alloc: Global,
     script: &Script,

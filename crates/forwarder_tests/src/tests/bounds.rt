@@ -8,6 +8,7 @@ use forwarder::{Config, forward};
 use forwarding::{ForwardError, Open};
 use std::alloc::Global;
 use std::process::Abort;
+use std::rt::Clock;
 use std::sync::Wait;
 use std::thread::Threads;
 use wire_script::Script;
@@ -118,7 +119,7 @@ const BROKEN: &[Config] = &[
 ];
 
 /// How many of these are refused before anything is done, up to the first that is not.
-fn refused<R: Threads + Wait + Sync + Abort>(
+fn refused<R: Threads + Wait + Clock + Sync + Abort>(
     rt: &R,
     alloc: Global,
     script: &Script,
@@ -201,7 +202,7 @@ fn the_edges_are_run(rt: HostRuntime) {
 }
 
 /// Whether a frame of this port and queue is refused with `pairs` pairs, and accepted with one more.
-fn has_just<R: Threads + Wait + Sync + Abort>(
+fn has_just<R: Threads + Wait + Clock + Sync + Abort>(
     rt: &R,
     alloc: Global,
     port: u8,

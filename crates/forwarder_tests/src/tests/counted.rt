@@ -6,6 +6,7 @@ use forwarder::{Config, Report, forward};
 use forwarding::Gate;
 use std::alloc::Global;
 use std::process::Abort;
+use std::rt::Clock;
 use std::sync::Wait;
 use std::thread::Threads;
 use wire_script::Script;
@@ -81,7 +82,7 @@ pub(crate) fn is_drained(report: &Report, script: &Script, pairs: u32, wanted: &
 }
 
 /// Checks that a script is forwarded by flows that are drained with these counts, and have their frames on their wires.
-pub(crate) fn comes_to<R: Threads + Wait + Sync + Abort, G: Gate + Sync>(
+pub(crate) fn comes_to<R: Threads + Wait + Clock + Sync + Abort, G: Gate + Sync>(
     rt: &R,
     alloc: Global,
     script: &Script,

@@ -9,6 +9,7 @@ use forwarder::{Config, forward};
 use forwarding::Open;
 use std::alloc::Global;
 use std::process::Abort;
+use std::rt::Clock;
 use std::sync::Wait;
 use std::thread::Threads;
 use wire_script::{Script, WireFrame};
@@ -95,7 +96,7 @@ fn all_have_gone(flows: &[FlowReport], wanted: &[Sum; 16]) -> bool {
 }
 
 /// Checks that all frames of each flow are sent by `workers` workers.
-fn all_go<R: Threads + Wait + Sync + Abort>(
+fn all_go<R: Threads + Wait + Clock + Sync + Abort>(
     rt: &R,
     alloc: Global,
     script: &Script,

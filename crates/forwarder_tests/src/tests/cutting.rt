@@ -11,6 +11,7 @@ use forwarding::Open;
 use pool::Pool;
 use std::alloc::Global;
 use std::process::Abort;
+use std::rt::Clock;
 use std::sync::Wait;
 use std::sync::atomic::AtomicBool;
 use std::thread::Threads;
@@ -63,7 +64,7 @@ struct Cut<'a> {
 }
 
 /// Whether flow 1 is cut after exactly these turns.
-fn is_cut<R: Threads + Wait + Sync + Abort>(rt: &R, alloc: Global, cut: Cut<'_>) -> bool {
+fn is_cut<R: Threads + Wait + Clock + Sync + Abort>(rt: &R, alloc: Global, cut: Cut<'_>) -> bool {
     let config = Config {
         turns: cut.turns,
         retry: cut.retry,
@@ -75,7 +76,7 @@ fn is_cut<R: Threads + Wait + Sync + Abort>(rt: &R, alloc: Global, cut: Cut<'_>)
 }
 
 /// Whether flow 1 is cut at the turn in which a flag is set, with no limit on the turns.
-fn is_cut_by_a_flag<R: Threads + Wait + Sync + Abort>(rt: &R, alloc: Global, cut: Cut<'_>) -> bool {
+fn is_cut_by_a_flag<R: Threads + Wait + Clock + Sync + Abort>(rt: &R, alloc: Global, cut: Cut<'_>) -> bool {
     let config = Config {
         retry: cut.retry,
         ..SHORT
@@ -95,7 +96,7 @@ fn is_cut_by_a_flag<R: Threads + Wait + Sync + Abort>(rt: &R, alloc: Global, cut
 }
 
 /// Whether that holds if packets are kept, and if they are dropped, by a limit and by a flag.
-fn is_cut_either_way<R: Threads + Wait + Sync + Abort>(
+fn is_cut_either_way<R: Threads + Wait + Clock + Sync + Abort>(
     rt: &R,
     alloc: Global,
     script: &Script,
@@ -124,7 +125,7 @@ fn a_flow_is_cut_after_its_turns(rt: HostRuntime) {
 }
 
 /// Whether a flow that ends before the flag is set is drained.
-fn none_is_cut_before_the_flag<R: Threads + Wait + Sync + Abort>(
+fn none_is_cut_before_the_flag<R: Threads + Wait + Clock + Sync + Abort>(
     rt: &R,
     alloc: Global,
     script: &Script,
@@ -154,7 +155,7 @@ fn while_no_flag_is_set_no_flow_is_cut(rt: HostRuntime) {
 }
 
 /// Whether all 40 frames are sent within `turns` turns.
-fn none_is_cut<R: Threads + Wait + Sync + Abort>(
+fn none_is_cut<R: Threads + Wait + Clock + Sync + Abort>(
     rt: &R,
     alloc: Global,
     script: &Script,

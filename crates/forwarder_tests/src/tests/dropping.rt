@@ -10,6 +10,7 @@ use forwarder::{Config, forward};
 use forwarding::Open;
 use std::alloc::Global;
 use std::process::Abort;
+use std::rt::Clock;
 use std::sync::Wait;
 use std::thread::Threads;
 use tx_ring::Completion;
@@ -49,7 +50,7 @@ fn adds_up(flow: &FlowReport) -> bool {
 }
 
 /// Whether that holds over rings of 8, with frames held or dropped, and packets kept or dropped.
-fn is_counted<R: Threads + Wait + Sync + Abort>(
+fn is_counted<R: Threads + Wait + Clock + Sync + Abort>(
     rt: &R,
     alloc: Global,
     script: &Script,
@@ -72,7 +73,7 @@ fn is_counted<R: Threads + Wait + Sync + Abort>(
 }
 
 /// Whether that holds with both ways to report.
-fn is_counted_both_ways<R: Threads + Wait + Sync + Abort>(
+fn is_counted_both_ways<R: Threads + Wait + Clock + Sync + Abort>(
     rt: &R,
     alloc: Global,
     script: &Script,

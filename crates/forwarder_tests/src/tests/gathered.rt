@@ -14,6 +14,7 @@ use forwarding::{ForwardError, Gate, Open};
 use pool::{Pool, PoolPass};
 use std::alloc::Global;
 use std::process::Abort;
+use std::rt::Clock;
 use std::sync::Wait;
 use std::thread::Threads;
 use wire_script::Script;
@@ -68,7 +69,7 @@ pub(crate) struct Forwarding<'a> {
 }
 
 /// Forwards over a new pool. Returns the refusal, and the pool's buffers afterwards.
-fn ended<R: Threads + Wait + Sync + Abort, G: Gate + Sync>(
+fn ended<R: Threads + Wait + Clock + Sync + Abort, G: Gate + Sync>(
     rt: &R,
     alloc: Global,
     forwarding: Forwarding<'_>,
@@ -81,7 +82,7 @@ fn ended<R: Threads + Wait + Sync + Abort, G: Gate + Sync>(
 }
 
 /// Forwards over this pool. Returns the refusal, and the pool's buffers afterwards.
-pub(crate) fn ended_over<R: Threads + Wait + Sync + Abort, G: Gate + Sync>(
+pub(crate) fn ended_over<R: Threads + Wait + Clock + Sync + Abort, G: Gate + Sync>(
     rt: &R,
     alloc: Global,
     forwarding: Forwarding<'_>,
@@ -119,7 +120,7 @@ const ALL: Config = Config {
 };
 
 /// Whether all buffers are back after a refusal at this number of passes.
-pub(crate) fn are_back<R: Threads + Wait + Sync + Abort>(rt: &R, trial: Trial<'_>) -> bool {
+pub(crate) fn are_back<R: Threads + Wait + Clock + Sync + Abort>(rt: &R, trial: Trial<'_>) -> bool {
     let config = Config {
         workers: trial.workers,
         ..ALL
@@ -142,7 +143,7 @@ fn all_back_after_a_refusal(rt: HostRuntime) {
 }
 
 /// Whether all buffers are back after this number of turns.
-pub(crate) fn are_back_at_the_end<R: Threads + Wait + Sync + Abort>(
+pub(crate) fn are_back_at_the_end<R: Threads + Wait + Clock + Sync + Abort>(
     rt: &R,
     trial: Trial<'_>,
 ) -> bool {
@@ -178,7 +179,7 @@ const LONGEST: &[Burst] = &[Burst {
 }];
 
 /// Whether all buffers are back after this gate refused, or no one was refused.
-fn are_back_after<R: Threads + Wait + Sync + Abort, G: Gate + Sync>(
+fn are_back_after<R: Threads + Wait + Clock + Sync + Abort, G: Gate + Sync>(
     rt: &R,
     alloc: Global,
     script: &Script,

@@ -8,11 +8,12 @@ use crate::tests::wanted::{holds, same};
 use forwarder::{Config, forward};
 use forwarding::ForwardError;
 use std::process::Abort;
+use std::rt::Clock;
 use std::sync::Wait;
 use std::thread::Threads;
 
 /// Whether forwarding is refused by a gate that refuses after this number of passes.
-pub(crate) fn is_refused<R: Threads + Wait + Sync + Abort>(rt: &R, trial: Trial<'_>) -> bool {
+pub(crate) fn is_refused<R: Threads + Wait + Clock + Sync + Abort>(rt: &R, trial: Trial<'_>) -> bool {
     let config = Config {
         workers: trial.workers,
         ..SHORT
@@ -30,7 +31,7 @@ fn wherever_a_gate_refuses_that_is_answered(rt: HostRuntime) {
 }
 
 /// Whether each worker's driver was at its gate while an offer was refused, and left it before `forward` returned.
-pub(crate) fn is_left<R: Threads + Wait + Sync + Abort>(rt: &R, trial: Trial<'_>) -> bool {
+pub(crate) fn is_left<R: Threads + Wait + Clock + Sync + Abort>(rt: &R, trial: Trial<'_>) -> bool {
     let workers = u64::from(trial.workers);
     let config = Config {
         workers: trial.workers,

@@ -11,6 +11,7 @@ use forwarder::{Config, MOST_REPEAT, forward};
 use forwarding::Open;
 use std::alloc::Global;
 use std::process::Abort;
+use std::rt::Clock;
 use std::sync::Wait;
 use std::thread::Threads;
 use tx_ring::Completion;
@@ -23,14 +24,14 @@ const EMPTY: Config = Config {
 };
 
 /// Whether the 40 frames pass rings of 8 in batches of this number, with both ways to report.
-pub(crate) fn forty_go_both_ways<R: Threads + Wait + Sync + Abort>(
+pub(crate) fn forty_go_both_ways<R: Threads + Wait + Clock + Sync + Abort>(
     rt: &R,
     trial: Trial<'_>,
 ) -> bool {
     forty_go(rt, trial, Completion::Status) && forty_go(rt, trial, Completion::Head)
 }
 
-fn forty_go<R: Threads + Wait + Sync + Abort>(
+fn forty_go<R: Threads + Wait + Clock + Sync + Abort>(
     rt: &R,
     trial: Trial<'_>,
     completion: Completion,
@@ -136,7 +137,7 @@ const LONG: &[Long] = &[
 ];
 
 /// Whether the frames of a row have its counts.
-fn goes<R: Threads + Wait + Sync + Abort>(rt: &R, alloc: Global, row: &Long) -> bool {
+fn goes<R: Threads + Wait + Clock + Sync + Abort>(rt: &R, alloc: Global, row: &Long) -> bool {
     let burst = Burst {
         port: 0,
         queue: 0,

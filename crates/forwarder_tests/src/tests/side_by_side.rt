@@ -7,6 +7,7 @@ use crate::tests::wanted::holds;
 use forwarder::Config;
 use std::alloc::Global;
 use std::process::Abort;
+use std::rt::Clock;
 use std::sync::Wait;
 use std::thread::Threads;
 use wire_script::Script;
@@ -54,7 +55,7 @@ const FIFTEEN: &[Counts] = &[[40, 15, 25, 0, 15, 15, 0, 15, 0], NONE];
 const SIXTEEN: &[Counts] = &[[40, 16, 24, 0, 16, 16, 0, 16, 0], NONE];
 
 /// Whether 40 frames that are offered before the first is taken have these counts.
-fn is_full<R: Threads + Wait + Sync + Abort>(
+fn is_full<R: Threads + Wait + Clock + Sync + Abort>(
     rt: &R,
     alloc: Global,
     script: &Script,

@@ -8,6 +8,7 @@ use crate::tests::wanted::same;
 use crate::tests::watched::are_shown;
 use std::alloc::Global;
 use std::process::Abort;
+use std::rt::Clock;
 use std::sync::Wait;
 use std::thread::Threads;
 use wire_script::Script;
@@ -37,7 +38,7 @@ pub(crate) enum Asked {
 }
 
 impl Asked {
-    fn is_so<R: Threads + Wait + Sync + Abort>(self, rt: &R, trial: Trial<'_>) -> bool {
+    fn is_so<R: Threads + Wait + Clock + Sync + Abort>(self, rt: &R, trial: Trial<'_>) -> bool {
         match self {
             Asked::FortyGo => forty_go_both_ways(rt, trial),
             Asked::IsRefused => is_refused(rt, trial),
@@ -50,7 +51,7 @@ impl Asked {
 }
 
 /// Checks the property with 1 to 4 workers and each of the numbers.
-pub(crate) fn each_is_so<R: Threads + Wait + Sync + Abort>(
+pub(crate) fn each_is_so<R: Threads + Wait + Clock + Sync + Abort>(
     rt: &R,
     alloc: Global,
     asked: Asked,
@@ -69,7 +70,7 @@ pub(crate) fn each_is_so<R: Threads + Wait + Sync + Abort>(
     }
 }
 
-fn by_each_is_so<R: Threads + Wait + Sync + Abort>(rt: &R, asked: Asked, first: Trial<'_>) {
+fn by_each_is_so<R: Threads + Wait + Clock + Sync + Abort>(rt: &R, asked: Asked, first: Trial<'_>) {
     let number = first.number;
     for workers in 1..=4 {
         let good = asked.is_so(rt, Trial { workers, ..first });

@@ -19,6 +19,7 @@ use forwarding::{ForwardError, Open};
 use pool::{Pool, PoolPass};
 use std::alloc::Global;
 use std::process::Abort;
+use std::rt::Clock;
 use std::sync::Wait;
 use std::thread;
 use std::thread::Threads;
@@ -35,7 +36,7 @@ fn all_see<R: Wait>(rt: &R, readers: &mut [Reader<'_>], flows: &[FlowReport]) ->
 }
 
 /// Whether each cell has its flow's numbers after the 40 frames passed rings of 8.
-pub(crate) fn are_shown<R: Threads + Wait + Sync + Abort>(rt: &R, trial: Trial<'_>) -> bool {
+pub(crate) fn are_shown<R: Threads + Wait + Clock + Sync + Abort>(rt: &R, trial: Trial<'_>) -> bool {
     let Trial { alloc, script, .. } = trial;
     let config = Config {
         workers: trial.workers,
@@ -74,7 +75,7 @@ const MORE_COUNTS: &[Counts] = &[
 ];
 
 /// Whether the cells go on when a script is forwarded twice over one pool: each reader sees the counts of both times.
-fn go_on<R: Threads + Wait + Sync + Abort>(
+fn go_on<R: Threads + Wait + Clock + Sync + Abort>(
     rt: &R,
     alloc: Global,
     script: &Script,
@@ -184,7 +185,7 @@ fn watch_driven<R: Wait>(rt: &R, cell: &DriveCell, mut pass: DrivePass) -> bool
 }
 
 /// Reads both cells of a flow in threads of their own.
-fn watch<R: Threads + Wait + Sync + Abort>(rt: &R, reader: Reader<'_>, gate: &Paced) -> bool {
+fn watch<R: Threads + Wait + Clock + Sync + Abort>(rt: &R, reader: Reader<'_>, gate: &Paced) -> bool {
     let Reader { cells, stat, drive } = reader;
     let (offered, driven) = thread::join(
         rt,
@@ -198,7 +199,7 @@ fn watch<R: Threads + Wait + Sync + Abort>(rt: &R, reader: Reader<'_>, gate: &Pa
 const WATCHED: Config = Config { ring: 64, ..SHORT };
 
 /// Whether the cells of flow 1 show the progress of a forwarder with this gate.
-fn is_watched<R: Threads + Wait + Sync + Abort>(
+fn is_watched<R: Threads + Wait + Clock + Sync + Abort>(
     rt: &R,
     alloc: Global,
     script: &Script,
