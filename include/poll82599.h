@@ -25,12 +25,12 @@
  * Results:
  * - poll82599_..._new, poll82599_decode, poll82599_encode, poll82599_moves and poll82599_once return 0 when it is done. Any other
  *   number is a refusal and leaves handles and bytes as they were.
- * - poll82599_..._close returns how many buffers were in the ring (poll82599_packets_close: how many packets there were).
+ * - poll82599_..._close returns how many buffers were in the ring or the pool (poll82599_packets_close: how many packets there were).
  * - poll82599_..._state and poll82599_..._device_control return a control word, POLL82599_OFF to POLL82599_DISABLE_ASKED.
- * - poll82599_packets_count and poll82599_rx_device_counts return counts.
+ * - poll82599_packets_count, poll82599_pool_count and poll82599_rx_device_counts return counts.
  * - All other calls return 1 when it is done. 0 means not now, or nothing to do. The other numbers are listed at each call.
  * - A handle that is empty (never filled, or closed) or of another kind makes a call return POLL82599_NO_END, a close
- *   POLL82599_NOT_CLOSED, and poll82599_packets_close and poll82599_packets_count SIZE_MAX. Then nothing happens.
+ *   POLL82599_NOT_CLOSED, and the ..._close and ..._count of packets and of a pool SIZE_MAX. Then nothing happens.
  *
  * The exported functions are proved. The inline functions below, the compiler and the following duties of the caller are not checked:
  * - a handle begins as {0}, is passed by its address, and is never copied;
@@ -62,7 +62,8 @@ enum {
     POLL82599_MOST_SEGMENTS = 15,   /* of a frame; also fewer than the ring has descriptors */
     POLL82599_MOST_PAIRS = 8,       /* of queues in a list of moves */
     POLL82599_LEAST_BUFFERS = 16,   /* of a driver or a worker: at least this .. */
-    POLL82599_MOST_BUFFERS = 256
+    POLL82599_MOST_BUFFERS = 256,
+    POLL82599_POOL_BUFFERS = 65536  /* the most of a pool */
 };
 
 /* The results of the ..._new calls, in the `int32_t` that they return. */
@@ -70,7 +71,7 @@ enum poll82599_made {
     POLL82599_MADE = 0,
     POLL82599_MADE_NO_LENGTH = 1,   /* the length is not a power of two from 8 to 4,096 */
     POLL82599_MADE_NO_MEMORY = 2,
-    POLL82599_MADE_NO_BUFFERS = 3,  /* the number of buffers is not 16 to 256 */
+    POLL82599_MADE_NO_BUFFERS = 3,  /* the number of buffers is not 16 to 256; of a pool: not 16 to 65,536 */
     POLL82599_MADE_NO_SETTING = 4,  /* another argument is out of range */
     POLL82599_MADE_IN_USE = 5       /* a handle is not empty */
 };
@@ -388,10 +389,12 @@ static inline uint32_t poll82599_tx_send(struct poll82599_tx_controller *control
  *
  * A worker's packets are its empty buffers and a list of up to 32 packets, the oldest first. A packet is named by its place in that list,
  * counted from 0. A queue is the driver's side of a ring, in batches. A device is the other side: it takes and sends whole frames, and
- * the library cuts them into segments and joins them again. Queues, devices and packets are handles, with the duties listed at the top.
- * A ring is used either in batches or segment by segment. */
+ * the library cuts them into segments and joins them again. A pool has more empty buffers than a worker: a worker refills from it, and
+ * returns buffers to it. Queues, devices, packets and pools are handles, with the duties listed at the top. A ring is used either in
+ * batches or segment by segment. */
 
 struct poll82599_packets { uint8_t *end; };
+struct poll82599_pool { uint8_t *end; };
 struct poll82599_rx_queue { uint8_t *end; };
 struct poll82599_rx_device { uint8_t *end; };
 struct poll82599_tx_queue { uint8_t *end; };
@@ -406,7 +409,7 @@ enum {
 struct poll82599_batch {
     uint32_t operation;
     uint32_t answer;
-    size_t count;
+    size_t count;   /* to poll82599_pool_move: how many buffers to return */
     size_t buffers; /* of ..._queue_move: how many empty buffers the worker gave to the ring, or got back from it */
 };
 
@@ -416,7 +419,7 @@ struct poll82599_packet {
     uint32_t answer;
     size_t packet; /* its place, from 0 */
     size_t len;    /* of the packet, in bytes */
-    size_t at;     /* the place of a byte in it, from 0, */
+    size_t at;     /* the place of a byte in it, from 0, or how many buffers it has; */
     uint8_t byte;  /* and the byte */
 };
 
@@ -430,14 +433,16 @@ struct poll82599_offered {
     uint64_t oversize;
 };
 
-/* The operations of poll82599_packets_do, of the ..._queue_move and ..._queue_do calls, and of the ..._device_do calls. */
+/* The operations of poll82599_packets_do, of the ..._move and ..._queue_do calls, and of the ..._device_do calls. */
 enum poll82599_packets_operation {
     POLL82599_PACKET_COPY = 0,
     POLL82599_PACKET_BYTE = 1,
     POLL82599_PACKET_TOUCH = 2,
     POLL82599_PACKET_FREE = 3,
-    POLL82599_PACKETS_COUNT = 4
+    POLL82599_PACKETS_COUNT = 4,
+    POLL82599_PACKET_LENGTH = 5
 };
+enum poll82599_pool_operation { POLL82599_POOL_REFILL = 0, POLL82599_POOL_RETURN = 1 };
 enum poll82599_rx_queue_move_operation { POLL82599_RX_QUEUE_BATCH = 0, POLL82599_RX_QUEUE_RECLAIM = 1 };
 enum poll82599_tx_queue_move_operation { POLL82599_TX_QUEUE_BATCH = 0, POLL82599_TX_QUEUE_CLEAN = 1, POLL82599_TX_QUEUE_RECLAIM = 2 };
 enum poll82599_rx_queue_operation {
@@ -467,8 +472,14 @@ int32_t poll82599_packets_new(uint32_t buffers, struct poll82599_packets *packet
 uint32_t poll82599_packets_put(struct poll82599_packets *packets, const uint8_t *frame, size_t len);
 uint32_t poll82599_packets_append(struct poll82599_packets *packets, const uint8_t *bytes, size_t len);
 uint32_t poll82599_packet_move(struct poll82599_packets *packets, size_t packet, struct poll82599_packets *other);
+uint32_t poll82599_packet_read(struct poll82599_packets *packets, size_t packet, size_t at, uint8_t *bytes, size_t len);
+uint32_t poll82599_packet_write(struct poll82599_packets *packets, size_t packet, size_t at, const uint8_t *bytes, size_t len);
 void poll82599_packets_do(struct poll82599_packets *packets, struct poll82599_packet *call, uint8_t *bytes, size_t room);
 size_t poll82599_packets_close(struct poll82599_packets *packets);
+int32_t poll82599_pool_new(uint32_t buffers, struct poll82599_pool *pool);
+void poll82599_pool_move(struct poll82599_packets *packets, struct poll82599_pool *pool, struct poll82599_batch *call);
+size_t poll82599_pool_count(struct poll82599_pool *pool);
+size_t poll82599_pool_close(struct poll82599_pool *pool);
 int32_t poll82599_rx_queue_new(uint32_t descriptors, size_t batch, size_t fill, uint32_t drop_en, struct poll82599_rx_queue *queue, struct poll82599_rx_device *device);
 void poll82599_rx_queue_move(struct poll82599_rx_queue *queue, struct poll82599_packets *packets, struct poll82599_batch *call);
 void poll82599_rx_queue_do(struct poll82599_rx_queue *queue, struct poll82599_batch *call);
@@ -482,6 +493,9 @@ int64_t poll82599_tx_queue_close(struct poll82599_tx_queue *queue, struct poll82
 
 /* poll82599_packets_new makes a worker's packets: no packet, and `buffers` empty buffers. Returns 0: done; 2: no memory; 3: `buffers` is
  * not 16 to 256; 5: the handle is not empty. poll82599_packets_close frees them all and returns how many packets there were.
+ *
+ * poll82599_pool_new makes a pool of `buffers` empty buffers. Returns 0, 2 and 5 as above; 3: `buffers` is not 16 to 65,536.
+ * poll82599_pool_count returns how many buffers are in the pool. poll82599_pool_close frees them and returns how many they were.
  *
  * poll82599_rx_queue_new makes a receive queue of `descriptors` descriptors. Its driver takes up to `batch` packets at once, 1 to 32.
  * Its device fills buffers to `fill` bytes, 1,024 or 2,048. When too few descriptors are free the device drops a frame if `drop_en` is
@@ -504,7 +518,11 @@ int64_t poll82599_tx_queue_close(struct poll82599_tx_queue *queue, struct poll82
  * or the packet would have more than 15 segments or 15,000 bytes.
  *
  * poll82599_packet_move moves a packet, with its buffers, behind the packets of another worker, and the packets behind it move up.
- * So a thread sorts packets by the queue that is to send them. Returns 1: done; 0: there is no such packet, or `other` has 32 packets. */
+ * So a thread sorts packets by the queue that is to send them. Returns 1: done; 0: there is no such packet, or `other` has 32 packets.
+ *
+ * poll82599_packet_read copies `len` bytes of a packet, from its byte `at` on, to `bytes`, and poll82599_packet_write replaces them by
+ * those of `bytes`, in place. The range may span several buffers. A call costs a pass over the packet's buffers, so read a header as a
+ * whole. Returns 1: done; 0: there is no such packet, or it has fewer than `at + len` bytes. */
 
 static inline uint32_t poll82599_packets_step(struct poll82599_packets *packets, struct poll82599_packet *call)
 {
@@ -521,6 +539,18 @@ static inline uint32_t poll82599_packet_copy(struct poll82599_packets *packets, 
     poll82599_packets_do(packets, &call, bytes, room);
     *len = call.len;
     return call.answer;
+}
+
+/* Puts into `*len` how many bytes a packet has, and into `*segments`, unless `segments` is null, how many buffers. Returns 1: done; 0:
+ * there is no such packet. */
+static inline uint32_t poll82599_packet_length(struct poll82599_packets *packets, size_t packet, size_t *len, size_t *segments)
+{
+    struct poll82599_packet call = {POLL82599_PACKET_LENGTH, 0, packet, 0, 0, 0};
+    uint32_t answer = poll82599_packets_step(packets, &call);
+    *len = call.len;
+    if (segments)
+        *segments = call.at;
+    return answer;
 }
 
 /* Reads a byte of a packet. Returns 1: done; 0: there is no such packet or byte. */
@@ -557,6 +587,28 @@ static inline size_t poll82599_packets_count(struct poll82599_packets *packets, 
     return answer == POLL82599_DONE ? call.packet : SIZE_MAX;
 }
 
+/* ---- A pool of buffers.
+ *
+ * A worker has at most 256 empty buffers, and a ring has up to 4,096 descriptors. A worker that refills from a pool posts more. A pool is a
+ * handle: one call at a time uses it. Several threads share a pool under a lock of the program, or each has a pool of its own. */
+
+static inline uint32_t poll82599_pool_step(struct poll82599_packets *packets, struct poll82599_pool *pool, uint32_t operation, size_t wanted, size_t *count)
+{
+    struct poll82599_batch call = {operation, 0, wanted, 0};
+    poll82599_pool_move(packets, pool, &call);
+    if (count)
+        *count = call.count;
+    return call.answer;
+}
+
+/* Takes empty buffers from the pool until the worker has 256 or the pool is empty. Returns 1: done, `*count` buffers; 0: the worker has 256,
+ * or the pool is empty. `count` may be null. */
+static inline uint32_t poll82599_packets_refill(struct poll82599_packets *packets, struct poll82599_pool *pool, size_t *count) { return poll82599_pool_step(packets, pool, POLL82599_POOL_REFILL, 0, count); }
+
+/* Returns up to `wanted` empty buffers of the worker to the pool. Returns 1: done, `*count` buffers; 0: none was wanted, the worker has none,
+ * or the pool has 65,536. `count` may be null. */
+static inline uint32_t poll82599_packets_return(struct poll82599_packets *packets, struct poll82599_pool *pool, size_t wanted, size_t *count) { return poll82599_pool_step(packets, pool, POLL82599_POOL_RETURN, wanted, count); }
+
 /* ---- The driver's thread. */
 
 static inline uint32_t poll82599_rx_queue_step(struct poll82599_rx_queue *queue, uint32_t operation, size_t *count)
@@ -580,6 +632,14 @@ static inline uint32_t poll82599_rx_batch(struct poll82599_rx_queue *queue, stru
     if (posted)
         *posted = call.buffers;
     return call.answer;
+}
+
+/* Refills the worker from the pool, and then does poll82599_rx_batch. The results are those of poll82599_rx_batch. A loop until
+ * `*posted` is 0 posts buffers in all free descriptors, unless the pool runs out or the queue is not on. */
+static inline uint32_t poll82599_rx_batch_from(struct poll82599_rx_queue *queue, struct poll82599_packets *packets, struct poll82599_pool *pool, size_t *count, size_t *posted)
+{
+    poll82599_packets_refill(packets, pool, 0);
+    return poll82599_rx_batch(queue, packets, count, posted);
 }
 
 /* Asks for the queue to be enabled, if nothing was asked yet, and loads the control word. Call it until it returns 1; meanwhile the device

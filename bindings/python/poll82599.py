@@ -83,8 +83,14 @@ def _loaded():
         "packets_put": (c_uint32, handle, read, size),
         "packets_append": (c_uint32, handle, read, size),
         "packet_move": (c_uint32, handle, size, handle),
+        "packet_read": (c_uint32, handle, size, size, write, size),
+        "packet_write": (c_uint32, handle, size, size, read, size),
         "packets_do": (None, handle, POINTER(_Packet), write, size),
         "packets_close": (size, handle),
+        "pool_new": (c_int32, c_uint32, handle),
+        "pool_move": (None, handle, handle, POINTER(_Batch)),
+        "pool_count": (size, handle),
+        "pool_close": (size, handle),
         "rx_queue_new": (c_int32, c_uint32, size, size, c_uint32, handle, handle),
         "rx_queue_move": (None, handle, handle, POINTER(_Batch)),
         "rx_queue_do": (None, handle, POINTER(_Batch)),
@@ -108,7 +114,7 @@ def _loaded():
 
 
 _calls = _loaded()
-_made = {1: "the number of descriptors is not a power of two from 8 to 4,096", 2: "memory", 3: "the number of buffers is not 16 to 256",
+_made = {1: "the number of descriptors is not a power of two from 8 to 4,096", 2: "memory", 3: "the number of buffers is not 16 to 256, or of a pool 16 to 65,536",
          4: "a setting is out of range", 5: "a handle is in use"}
 
 
@@ -301,6 +307,21 @@ class Packets:
         call = self._call(_Packet(operation=0, packet=packet), room)
         return bytes(room[: call.len]) if _done(call.answer) else None
 
+    def read(self, packet, at, count):
+        """Bytes of a packet from `at` on, or None if there is no such packet, or it ends before the range."""
+        room = _room(count)
+        return bytes(room[:count]) if _done(_calls["packet_read"](byref(self._handle), packet, at, room, count)) else None
+
+    def write(self, packet, at, piece):
+        """Replaces the bytes of a packet from `at` on."""
+        piece = bytes(piece)
+        return _done(_calls["packet_write"](byref(self._handle), packet, at, piece, len(piece)))
+
+    def length(self, packet):
+        """How many bytes a packet has, and in how many buffers; or None if there is no such packet."""
+        call = self._call(_Packet(operation=5, packet=packet))
+        return (call.len, call.at) if _done(call.answer) else None
+
     def touch(self, packet, at, byte):
         return _done(self._call(_Packet(operation=2, packet=packet, at=at, byte=byte)).answer)
 
@@ -311,10 +332,38 @@ class Packets:
         """Moves a packet, with its buffers, behind the packets of another worker."""
         return _done(_calls["packet_move"](byref(self._handle), packet, byref(other._handle)))
 
+    def refill(self, pool):
+        """Takes empty buffers from a pool until the worker has 256 or the pool is empty. Returns how many."""
+        return self._supplied(pool, _Batch(operation=0))
+
+    def give_back(self, pool, wanted):
+        """Returns up to `wanted` empty buffers to a pool. Returns how many."""
+        return self._supplied(pool, _Batch(operation=1, count=wanted))
+
+    def _supplied(self, pool, call):
+        _calls["pool_move"](byref(self._handle), byref(pool._handle), byref(call))
+        return call.count if _done(call.answer) else 0
+
     def _call(self, call, room=None):
         room = room or _room(0)
         _calls["packets_do"](byref(self._handle), byref(call), room, len(room))
         return call
+
+
+class Pool:
+    """A pool of 16 to 65,536 empty buffers, from which workers refill. Threads share it under a lock."""
+
+    def __init__(self, buffers):
+        self._handle = _Handle()
+        refusal = _calls["pool_new"](buffers, byref(self._handle))
+        if refusal:
+            raise Refused(_made[refusal])
+
+    def __del__(self):
+        _calls["pool_close"](byref(self._handle))
+
+    def __len__(self):
+        return _calls["pool_count"](byref(self._handle))
 
 
 class _Queue:

@@ -4,7 +4,7 @@ import threading
 import unittest
 
 import poll82599
-from poll82599 import OFF, ON, Packets, Refused, RxQueue, RxRing, TxQueue, TxRing, close
+from poll82599 import OFF, ON, Packets, Pool, Refused, RxQueue, RxRing, TxQueue, TxRing, close
 
 
 def frame(k):
@@ -108,6 +108,13 @@ class Batches(unittest.TestCase):
         self.assertEqual(sent, [b"\7" + frame(k)[1:] for k in range(200)])
         self.assertEqual(rx_device.counts(), {"offered": 200, "stored": 200, "dropped": 0, "oversize": 0})
 
+    def test_ranges_are_read_and_replaced(self):
+        packets = Packets(16)
+        packets.put(bytes(3000))
+        self.assertTrue(packets.write(0, 2046, b"abcd"))
+        self.assertEqual((packets.read(0, 2045, 6), packets.length(0)), (b"\0abcd\0", (3000, 2)))
+        self.assertEqual((packets.read(0, 2995, 6), packets.write(0, 2995, bytes(6)), packets.length(1)), (None, False, None))
+
     def test_packets_move_to_another_worker(self):
         packets, others = Packets(16), Packets(16)
         self.assertFalse(packets.append(b"x"))
@@ -116,6 +123,23 @@ class Batches(unittest.TestCase):
         self.assertEqual((len(packets), packets.copy(0), others.copy(0)), (1, frame(2), frame(1)))
         self.assertEqual(refusal(packets.append, b""), "unfit")
         self.assertEqual((packets.empty_buffers(), others.empty_buffers()), (13, 16))
+
+    def test_a_ring_of_4096_is_filled_from_a_pool(self):
+        (queue, device), packets, pool = RxQueue(4096, drop_en=True), Packets(16), Pool(4200)
+        self.assertEqual((queue.enable(), device.control(), queue.enable()), (False, ON, True))
+        posted = 0
+        while packets.refill(pool):
+            queue.batch(packets)
+            posted += queue.moved
+        self.assertEqual((posted, packets.empty_buffers() + len(pool)), (4095, 121))
+        self.assertEqual({device.offer(frame(k)) for k in range(4095)}, {"stored"})
+        for k in range(4095):
+            if not len(packets):
+                queue.batch(packets)
+            self.assertEqual(packets.copy(0), frame(k))
+            packets.free(0)
+        self.assertEqual(packets.give_back(pool, 0), 0)
+        self.assertIn("of a pool 16 to 65,536", refusal(Pool, 15))
 
     def test_refusals_have_reasons(self):
         queue, device = RxQueue(8)

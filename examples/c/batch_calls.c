@@ -14,6 +14,7 @@ static void expect(const char *what, long long got, long long wanted)
 }
 
 static struct poll82599_packets packets;
+static struct poll82599_pool pool;
 static struct poll82599_rx_queue rx;
 static struct poll82599_rx_device rx_device;
 static struct poll82599_tx_queue tx;
@@ -27,6 +28,11 @@ static void use_empty_handles(void)
 {
     expect("put a packet, empty packets", poll82599_packets_put(&packets, frame, 60), POLL82599_NO_END);
     expect("count, empty packets", poll82599_packets_count(&packets, NULL) == SIZE_MAX, 1);
+    expect("refill, empty handles", poll82599_packets_refill(&packets, &pool, &count), POLL82599_NO_END);
+    expect("count, empty pool", poll82599_pool_count(&pool) == SIZE_MAX, 1);
+    expect("close an empty pool", poll82599_pool_close(&pool) == SIZE_MAX, 1);
+    expect("read, empty packets", poll82599_packet_read(&packets, 0, 0, got, 1), POLL82599_NO_END);
+    expect("write, empty packets", poll82599_packet_write(&packets, 0, 0, frame, 1), POLL82599_NO_END);
     expect("receive a batch, empty queue", poll82599_rx_batch(&rx, &packets, &count, &moved), POLL82599_NO_END);
     expect("enable, empty receive queue", poll82599_rx_queue_enable(&rx), POLL82599_NO_END);
     expect("offer, empty device", poll82599_offer(&rx_device, frame, 60), POLL82599_NO_END);
@@ -43,6 +49,8 @@ static void mix_handles(void)
 {
     struct poll82599_packets none = {0};
     expect("receive a batch into empty packets", poll82599_rx_batch(&rx, &none, &count, NULL), POLL82599_NO_END);
+    expect("return buffers to a queue cast to a pool", poll82599_packets_return(&packets, (struct poll82599_pool *)&rx, 1, &count), POLL82599_NO_END);
+    expect("close packets cast to a pool", poll82599_pool_close((struct poll82599_pool *)&packets) == SIZE_MAX, 1);
     expect("offer, transmit device cast to a receive device", poll82599_offer((struct poll82599_rx_device *)&tx_device, frame, 60), POLL82599_NO_END);
     expect("close a receive queue with a transmit device", poll82599_rx_queue_close(&rx, (struct poll82599_rx_device *)&tx_device), POLL82599_NOT_CLOSED);
     expect("close a transmit device cast to packets", poll82599_packets_close((struct poll82599_packets *)&tx_device) == SIZE_MAX, 1);
@@ -107,6 +115,35 @@ static void build_a_packet(void)
     expect("append to empty packets", poll82599_packets_append(&pieces, frame, 60), POLL82599_NO_END);
 }
 
+/* Ranges of a packet of 5,000 bytes, which lies in buffers of 2,048, 2,048 and 904 bytes. */
+static void use_ranges(void)
+{
+    static const uint8_t patch[3000] = {1, 2, 3};
+    size_t segments;
+    expect("length of packet 0", poll82599_packet_length(&packets, 0, &len, &segments), 1);
+    expect("bytes", (long long)len, 5000);
+    expect("segments", (long long)segments, 3);
+    expect("length of packet 1", poll82599_packet_length(&packets, 1, &len, NULL), 0);
+    expect("read 34 bytes from byte 2,040 on", poll82599_packet_read(&packets, 0, 2040, got, 34), 1);
+    expect("the bytes differ", memcmp(got, frame + 2040, 34) != 0, 0);
+    expect("read 5,000 bytes", poll82599_packet_read(&packets, 0, 0, got, 5000), 1);
+    expect("the bytes differ", memcmp(got, frame, 5000) != 0, 0);
+    expect("read no byte at the end", poll82599_packet_read(&packets, 0, 5000, got, 0), 1);
+    expect("read 2 bytes from byte 4,999 on", poll82599_packet_read(&packets, 0, 4999, got, 2), 0);
+    expect("read from the greatest place on", poll82599_packet_read(&packets, 0, SIZE_MAX, got, 2), 0);
+    expect("read from packet 1", poll82599_packet_read(&packets, 1, 0, got, 1), 0);
+    memcpy(got, frame, 5000);
+    memcpy(got + 1500, patch, sizeof patch);
+    expect("write 3,000 bytes from byte 1,500 on", poll82599_packet_write(&packets, 0, 1500, patch, sizeof patch), 1);
+    expect("write beyond the end", poll82599_packet_write(&packets, 0, 2001, patch, sizeof patch), 0);
+    expect("write to packet 1", poll82599_packet_write(&packets, 1, 0, patch, 1), 0);
+    static uint8_t now[5000];
+    expect("read what was written", poll82599_packet_read(&packets, 0, 0, now, sizeof now), 1);
+    expect("the bytes differ", memcmp(got, now, sizeof now) != 0, 0);
+    expect("write the bytes back", poll82599_packet_write(&packets, 0, 0, frame, 5000), 1);
+    expect("segments", (long long)(poll82599_packet_length(&packets, 0, &len, &segments), segments), 3);
+}
+
 static void hold_packets(void)
 {
     build_a_packet();
@@ -115,6 +152,7 @@ static void hold_packets(void)
     expect("put a packet of 5,000 bytes", poll82599_packets_put(&packets, frame, 5000), 1);
     expect("number of packets", (long long)poll82599_packets_count(&packets, &empty), 1);
     expect("empty buffers", (long long)empty, 13);
+    use_ranges();
     expect("read byte 4,999", poll82599_packet_byte(&packets, 0, 4999, &byte), 1);
     expect("value of byte 4,999", byte, frame[4999]);
     expect("write byte 4,999", poll82599_packet_touch(&packets, 0, 4999, (uint8_t)(byte + 1)), 1);
@@ -214,6 +252,77 @@ static void stop(void)
     expect("number of packets", (long long)poll82599_packets_close(&packets), 0);
 }
 
+/* A pool, from which a worker of 16 buffers refills. */
+static void use_a_pool(void)
+{
+    expect("make a pool of 15 buffers", poll82599_pool_new(15, &pool), 3);
+    expect("make a pool of 65,537 buffers", poll82599_pool_new(65537, &pool), 3);
+    expect("make a pool of 4,200 buffers", poll82599_pool_new(4200, &pool), 0);
+    expect("make a pool in a handle in use", poll82599_pool_new(16, &pool), 5);
+    expect("make packets of 16 buffers", poll82599_packets_new(16, &packets), 0);
+    expect("refill", poll82599_packets_refill(&packets, &pool, &count), 1);
+    expect("buffers that came", (long long)count, 240);
+    expect("refill 256 buffers", poll82599_packets_refill(&packets, &pool, NULL), 0);
+    expect("return no buffer", poll82599_packets_return(&packets, &pool, 0, NULL), 0);
+    expect("return 56 buffers", poll82599_packets_return(&packets, &pool, 56, &count), 1);
+    expect("buffers that went", (long long)count, 56);
+    expect("return 1,000 of 200 buffers", poll82599_packets_return(&packets, &pool, 1000, &count), 1);
+    expect("buffers that went", (long long)count, 200);
+    expect("return one of no buffers", poll82599_packets_return(&packets, &pool, 1, NULL), 0);
+    expect("buffers in the pool", (long long)poll82599_pool_count(&pool), 4216);
+}
+
+/* Frame k of the ring of 4,096. */
+static const uint8_t *numbered(size_t k)
+{
+    frame[0] = (uint8_t)k;
+    frame[1] = (uint8_t)(k / 256);
+    return frame;
+}
+
+/* Takes all frames that were stored. Returns how many of them are frames 0, 1, 2 and so on. */
+static size_t take_numbered(void)
+{
+    size_t right = 0, taken;
+    for (size_t k = 0; poll82599_rx_batch_from(&rx, &packets, &pool, &taken, NULL) == 1 && taken;)
+        for (; taken; taken--) {
+            poll82599_packet_copy(&packets, 0, got, sizeof got, &len);
+            right += len == 60 && memcmp(got, numbered(k++), 60) == 0;
+            if (poll82599_packet_free(&packets, 0) == 2 && poll82599_packets_return(&packets, &pool, 128, NULL) == 1)
+                poll82599_packet_free(&packets, 0);
+        }
+    return right;
+}
+
+/* A ring of 4,096 descriptors, filled from the pool: 4,095 buffers are posted, 4,095 frames are stored, and none is dropped. */
+static void fill_a_long_ring(void)
+{
+    size_t posted = 0, stored = 0, left;
+    expect("make a receive queue of 4,096 descriptors", poll82599_rx_queue_new(4096, 32, 2048, 1, &rx, &rx_device), 0);
+    expect("ask for the queue to be enabled", poll82599_rx_queue_enable(&rx), 0);
+    expect("the device answers", poll82599_rx_device_control(&rx_device), POLL82599_ON);
+    expect("the driver sees the answer", poll82599_rx_queue_enable(&rx), 1);
+    do {
+        wrong += poll82599_rx_batch_from(&rx, &packets, &pool, &count, &moved) != 1;
+        posted += moved;
+    } while (moved);
+    expect("buffers posted", (long long)posted, 4095);
+    for (size_t k = 0; k < 4095; k++)
+        stored += poll82599_offer(&rx_device, numbered(k), 60) == 1;
+    expect("frames stored", (long long)stored, 4095);
+    expect("frames taken in order", (long long)take_numbered(), 4095);
+    expect("frames dropped", (long long)poll82599_rx_device_counts(&rx_device).dropped, 0);
+    expect("ask for the queue to be disabled", poll82599_rx_queue_disable(&rx), 1);
+    expect("the device answers", poll82599_rx_device_control(&rx_device), POLL82599_OFF);
+    expect("finish after the answer", poll82599_rx_queue_finish(&rx, &left), 1);
+    while (poll82599_rx_queue_reclaim(&rx, &packets, &count) == 0)
+        poll82599_packets_return(&packets, &pool, 256, NULL);
+    poll82599_packets_return(&packets, &pool, 256, NULL);
+    expect("close the receive queue; buffers in it", poll82599_rx_queue_close(&rx, &rx_device), 0);
+    expect("number of packets", (long long)poll82599_packets_close(&packets), 0);
+    expect("close the pool; buffers in it", (long long)poll82599_pool_close(&pool), 4216);
+}
+
 int main(void)
 {
     for (size_t at = 0; at < sizeof frame; at++)
@@ -225,6 +334,8 @@ int main(void)
     receive();
     transmit();
     stop();
+    use_a_pool();
+    fill_a_long_ring();
     use_empty_handles();
     return wrong != 0;
 }

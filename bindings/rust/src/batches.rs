@@ -15,6 +15,15 @@ pub struct Packets {
 // SAFETY: a handle of the library may go to another thread between two calls.
 unsafe impl Send for Packets {}
 
+/// A pool of up to 65,536 empty buffers. A worker has at most 256; one that refills from a pool can post the buffers of a longer
+/// ring. Threads share a pool in a lock, such as a `Mutex`.
+pub struct Pool {
+    handle: Box<UnsafeCell<Handle>>,
+}
+
+// SAFETY: as for `Packets`.
+unsafe impl Send for Pool {}
+
 /// The settings of a receive queue.
 #[derive(Clone, Copy, Debug, PartialEq, Eq)]
 pub struct RxSettings {
@@ -158,6 +167,38 @@ impl Packets {
         }
     }
 
+    /// Fills `room` with the bytes of a packet from `at` on. Returns false if there is no such packet, or it ends before the range.
+    ///
+    /// ```
+    /// use poll82599::Packets;
+    ///
+    /// let mut packets = Packets::new(16)?;
+    /// packets.put(&[0; 3000])?;
+    /// assert!(packets.write(0, 2046, &[1, 2, 3, 4])); // in two buffers
+    /// let mut room = [9; 6];
+    /// assert!(packets.read(0, 2045, &mut room));
+    /// assert_eq!(room, [0, 1, 2, 3, 4, 0]);
+    /// assert!(!packets.read(0, 2995, &mut room));
+    /// assert_eq!(packets.length(0), Some((3000, 2)));
+    /// # Ok::<(), Box<dyn std::error::Error>>(())
+    /// ```
+    pub fn read(&self, packet: usize, at: usize, room: &mut [u8]) -> bool {
+        // SAFETY: the handle is full. `Packets` is not `Sync`, so no other call uses it, and the room has its length.
+        is_done(unsafe { ffi::poll82599_packet_read(self.handle.get(), packet, at, room.as_mut_ptr(), room.len()) })
+    }
+
+    /// Replaces the bytes of a packet from `at` on. Returns false if there is no such packet, or it ends before the range.
+    pub fn write(&mut self, packet: usize, at: usize, bytes: &[u8]) -> bool {
+        // SAFETY: the handle is full, only this call uses it, and the bytes have their length.
+        is_done(unsafe { ffi::poll82599_packet_write(self.handle.get(), packet, at, bytes.as_ptr(), bytes.len()) })
+    }
+
+    /// How many bytes a packet has, and in how many buffers; or `None` if there is no such packet.
+    pub fn length(&self, packet: usize) -> Option<(usize, usize)> {
+        let call = self.call(Packet { operation: 5, packet, ..Packet::default() }, &mut []);
+        is_done(call.answer).then_some((call.len, call.at))
+    }
+
     /// A byte of a packet, or `None` if there is no such packet or byte.
     pub fn byte(&self, packet: usize, at: usize) -> Option<u8> {
         let call = self.call(Packet { operation: 1, packet, at, ..Packet::default() }, &mut []);
@@ -186,6 +227,23 @@ impl Packets {
         is_done(unsafe { ffi::poll82599_packet_move(self.handle.get(), packet, other.handle.get()) })
     }
 
+    /// Takes empty buffers from a pool until the worker has 256 or the pool is empty. Returns how many.
+    pub fn refill(&mut self, pool: &mut Pool) -> usize {
+        self.supplied(pool, Batch { operation: 0, ..Batch::default() })
+    }
+
+    /// Returns empty buffers to a pool: `wanted`, but at most those that the worker has and those that the pool has room for.
+    /// Returns how many.
+    pub fn give_back(&mut self, pool: &mut Pool, wanted: usize) -> usize {
+        self.supplied(pool, Batch { operation: 1, count: wanted, ..Batch::default() })
+    }
+
+    fn supplied(&mut self, pool: &mut Pool, mut call: Batch) -> usize {
+        // SAFETY: both handles are full, and only this call uses them.
+        unsafe { ffi::poll82599_pool_move(self.handle.get(), pool.handle.get(), &mut call) };
+        if is_done(call.answer) { call.count } else { 0 }
+    }
+
     /// The numbers of packets and of empty buffers.
     fn counted(&self) -> (usize, usize) {
         let call = self.call(Packet { operation: 4, ..Packet::default() }, &mut []);
@@ -203,6 +261,47 @@ impl Drop for Packets {
     fn drop(&mut self) {
         // SAFETY: no other call uses the handle. An empty one stays as it is.
         unsafe { ffi::poll82599_packets_close(self.handle.get()) };
+    }
+}
+
+impl Pool {
+    /// Makes a pool of `buffers` empty buffers, 16 to 65,536.
+    ///
+    /// ```
+    /// use poll82599::{Packets, Pool};
+    ///
+    /// let mut pool = Pool::new(4096)?;
+    /// let mut packets = Packets::new(16)?;
+    /// assert_eq!(packets.refill(&mut pool), 240);
+    /// assert_eq!(packets.give_back(&mut pool, 100), 100);
+    /// assert_eq!((packets.empty_buffers(), pool.len()), (156, 3956));
+    /// # Ok::<(), Box<dyn std::error::Error>>(())
+    /// ```
+    pub fn new(buffers: u32) -> Result<Pool, MakeError> {
+        let pool = Pool { handle: Box::new(Handle::empty()) };
+        // SAFETY: the handle is empty.
+        match unsafe { ffi::poll82599_pool_new(buffers, pool.handle.get()) } {
+            0 => Ok(pool),
+            refusal => Err(MakeError::of(refusal)),
+        }
+    }
+
+    /// How many buffers are in the pool.
+    pub fn len(&self) -> usize {
+        // SAFETY: the handle is full. `Pool` is not `Sync`, so no other call uses it.
+        unsafe { ffi::poll82599_pool_count(self.handle.get()) }
+    }
+
+    /// Whether the pool has no buffer.
+    pub fn is_empty(&self) -> bool {
+        self.len() == 0
+    }
+}
+
+impl Drop for Pool {
+    fn drop(&mut self) {
+        // SAFETY: no other call uses the handle. An empty one stays as it is.
+        unsafe { ffi::poll82599_pool_close(self.handle.get()) };
     }
 }
 

@@ -109,8 +109,14 @@ unsafe extern "C" {
     pub fn poll82599_packets_put(packets: *mut Handle, frame: *const u8, len: usize) -> u32;
     pub fn poll82599_packets_append(packets: *mut Handle, bytes: *const u8, len: usize) -> u32;
     pub fn poll82599_packet_move(packets: *mut Handle, packet: usize, other: *mut Handle) -> u32;
+    pub fn poll82599_packet_read(packets: *mut Handle, packet: usize, at: usize, bytes: *mut u8, len: usize) -> u32;
+    pub fn poll82599_packet_write(packets: *mut Handle, packet: usize, at: usize, bytes: *const u8, len: usize) -> u32;
     pub fn poll82599_packets_do(packets: *mut Handle, call: *mut Packet, bytes: *mut u8, room: usize);
     pub fn poll82599_packets_close(packets: *mut Handle) -> usize;
+    pub fn poll82599_pool_new(buffers: u32, pool: *mut Handle) -> i32;
+    pub fn poll82599_pool_move(packets: *mut Handle, pool: *mut Handle, call: *mut Batch);
+    pub fn poll82599_pool_count(pool: *mut Handle) -> usize;
+    pub fn poll82599_pool_close(pool: *mut Handle) -> usize;
     pub fn poll82599_rx_queue_new(
         descriptors: u32,
         batch: usize,

@@ -1,6 +1,6 @@
 //! Receive and transmit rings of the Intel 82599 between threads, over the proved library poll82599.
 //!
-//! [`RxRing`] and [`TxRing`] are used segment by segment; [`RxQueue`], [`TxQueue`] and [`Packets`] in batches. A new ring is off:
+//! [`RxRing`] and [`TxRing`] are used segment by segment; [`RxQueue`], [`TxQueue`], [`Packets`] and [`Pool`] in batches. A new ring is off:
 //! its driver asks for it to be enabled, the other end answers, and the driver sees the answer. Both ends of a ring may be in calls
 //! of two threads at the same time; nothing locks or waits. `docs/LIBRARY.md` of the repository describes each call and lists what
 //! is proved. The wrappers here are not proved, but tested.
@@ -13,7 +13,7 @@ mod plain;
 mod results;
 mod rings;
 
-pub use batches::{Batched, Counts, Offer, Packets, Reclaimed, RxDevice, RxQueue, RxSettings, TxDevice, TxQueue, TxSettings};
+pub use batches::{Batched, Counts, Offer, Packets, Pool, Reclaimed, RxDevice, RxQueue, RxSettings, TxDevice, TxQueue, TxSettings};
 pub use plain::{DecodeError, Descriptor, Form, MovesError, OnceError, Plan, decode, encode, moves, once};
 pub use results::{MakeError, Refusal, State};
 pub use rings::{BUFFER_BYTES, Completion, MOST_FRAME, RxController, RxDriver, RxRing, Segment, TxController, TxDriver, TxRing};

@@ -26,7 +26,7 @@ pub enum MakeError {
     Length,
     /// Memory was refused.
     Memory,
-    /// The number of buffers is not 16 to 256.
+    /// The number of buffers is not 16 to 256, or of a pool 16 to 65,536.
     Buffers,
     /// Another setting is out of range.
     Setting,
@@ -35,7 +35,7 @@ pub enum MakeError {
 texts!(MakeError {
     MakeError::Length => "the number of descriptors is not a power of two from 8 to 4,096",
     MakeError::Memory => "memory was refused",
-    MakeError::Buffers => "the number of buffers is not 16 to 256",
+    MakeError::Buffers => "the number of buffers is not 16 to 256, or of a pool 16 to 65,536",
     MakeError::Setting => "a setting is out of range",
 });
 

@@ -1,8 +1,8 @@
 //! Rings and queues between real threads, and what becomes of their ends.
 
 use poll82599::{
-    BUFFER_BYTES, Batched, Completion, Counts, MOST_FRAME, MakeError, Offer, Packets, Plan, Reclaimed, Refusal, RxController, RxDevice,
-    RxDriver, RxQueue, RxRing, RxSettings, State, TxDevice, TxQueue, TxRing, TxSettings, moves,
+    BUFFER_BYTES, Batched, Completion, Counts, MOST_FRAME, MakeError, Offer, Packets, Plan, Pool, Reclaimed, Refusal, RxController,
+    RxDevice, RxDriver, RxQueue, RxRing, RxSettings, State, TxDevice, TxQueue, TxRing, TxSettings, moves,
 };
 use std::thread::{self, yield_now};
 
@@ -141,6 +141,39 @@ fn a_disabled_queue_gives_its_buffers_back() {
     assert!(queue.renew());
     assert_eq!(packets.empty_buffers(), 16);
     assert_eq!(device.counts(), Counts { offered: 3, stored: 1, dropped: 1, oversize: 1 });
+}
+
+#[test]
+fn a_ring_of_4096_is_filled_from_a_pool_and_drops_nothing() {
+    let (mut queue, mut device) = RxQueue::new(RxSettings { descriptors: 4096, batch: 32, fill: 2048, drop_en: true }).expect("memory");
+    let (mut packets, mut pool) = (Packets::new(16).expect("memory"), Pool::new(4200).expect("memory"));
+    assert_eq!((queue.enable(), device.control(), queue.enable()), (Ok(false), State::On, Ok(true)));
+    let mut posted = 0;
+    while packets.refill(&mut pool) > 0 {
+        posted += queue.batch(&mut packets).expect("the queue is on").buffers;
+    }
+    assert_eq!(posted, 4095);
+    assert_eq!(packets.empty_buffers() + pool.len(), 4216 - 4095);
+    for k in 0..4095 {
+        assert_eq!(device.offer(&frame(k)), Ok(Offer::Stored));
+    }
+    let (mut room, mut taken) = ([0; MOST_FRAME], 0);
+    while taken < 4095 {
+        for _ in 0..queue.batch(&mut packets).expect("the queue is on").packets {
+            assert_eq!(packets.copy(0, &mut room), Ok(Some(&frame(taken)[..])));
+            packets.free(0).expect("the worker has room, since the batch posted its buffers");
+            taken += 1;
+        }
+    }
+    assert_eq!(device.counts(), Counts { offered: 4095, stored: 4095, dropped: 0, oversize: 0 });
+    assert!(queue.disable());
+    assert_eq!((device.control(), queue.finish()), (State::Off, Some(0)));
+    while !queue.reclaim(&mut packets).expect("the queue is disabled").all {
+        packets.give_back(&mut pool, 256);
+    }
+    packets.give_back(&mut pool, 256);
+    assert_eq!((packets.empty_buffers(), pool.len()), (0, 4216));
+    assert_eq!(Pool::new(15).err(), Some(MakeError::Buffers));
 }
 
 #[test]

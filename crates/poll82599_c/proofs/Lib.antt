@@ -1,9 +1,11 @@
 pub mod Following
 pub mod HandleAsBox
 pub mod Packing
+pub mod Patching
 pub mod Posting
 pub mod Sendable
 pub mod Shaping
 pub mod Stashes
 pub mod Storing
+pub mod Supplying
 pub mod Turning

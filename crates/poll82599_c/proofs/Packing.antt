@@ -9,7 +9,7 @@ use Rattle.limits.specs.declared.profile.TheConstants.{BUFFER_BYTES, MOST_FRAME,
 use Rattle.ring_model.specs.shared.Frames.{HasFrameLength}
 use Rattle.poll82599_c.specs.batches.Packets.{Packed, Pushed, numbers_of}
 
-bytes_of-push : (bufs : List Buffer) (b : Buffer) → bytes_of (bufs ++ b ∷ []) ≡ bytes_of bufs ++ b.bytes
+pub bytes_of-push : (bufs : List Buffer) (b : Buffer) → bytes_of (bufs ++ b ∷ []) ≡ bytes_of bufs ++ b.bytes
 bytes_of-push [] b = append-nil b.bytes
 bytes_of-push (a ∷ bufs) b = ap (λ (l : List ℕ). a.bytes ++ l) (bytes_of-push bufs b) ∙ sym (append_assoc a.bytes (bytes_of bufs) b.bytes)
 

@@ -1,5 +1,7 @@
 -- The objects behind the handles may go to another thread.
-use denote.Param.Send.{IsSend, sendable}
+use denote.Enum.Declared.{shape, variants}
+use denote.Enum.Enum.{Enum}
+use denote.Param.Send.{EachSend, IsSend, enum_send, recorded_send, sendable}
 use Rattle.arrayvec.proofs.cells.Cells.TheSendSync as cells
 use Rattle.atomic_table.proofs.send_lease.SendLease.TheSendSync as lease
 use Rattle.atomic_table.proofs.shared.Seat.TheSendSync as seat
@@ -37,6 +39,7 @@ use Rattle.poll82599_c.specs.contracts.rings.driving.RxDriving as RxDriving
 use Rattle.poll82599_c.specs.contracts.rings.serving.RxServing as RxServing
 use Rattle.poll82599_c.specs.contracts.rings.driving.TxDriving as TxDriving
 use Rattle.poll82599_c.specs.contracts.batches.packets.Packets as Packets
+use Rattle.poll82599_c.specs.contracts.batches.pool.Pool as Pool
 use Rattle.poll82599_c.specs.contracts.batches.tx_device.Sender as Sender
 
 ruleset parts = (sendable, crosses, cells.the_field_send, lease.the_send, lease.the_sync, seat.the_send, shared.the_send, shared.the_sync, send-Chain, sync-Chain, room.the_field_send, room.the_field_sync, tally.the_field_send, phantom.the_field_send, option.the_send, option.the_sync, begun.the_field_send, completion.the_field_send, controller_places.the_field_send, driver_places.the_field_send, heap.the_send, heap.the_sync)
@@ -56,6 +59,9 @@ tx_serving = search parts depth 60
 pub packets : IsSend Packets.the_row
 packets = search parts depth 60
 
+pub pool : IsSend Pool.the_row
+pool = search (parts, vec.the_send) depth 60
+
 pub rx_device : IsSend (Half.the_row RxRing.the_row RxController.the_row rx_ring.ghosts rx_device_of.ghosts)
 rx_device = search parts depth 60
 
@@ -68,5 +74,39 @@ tx_device = search (parts, vec.the_send, wire.the_send) depth 60 fits 20000
 pub tx_queue : IsSend (Half.the_row TxRing.the_row TxDriver.the_row tx_ring.ghosts tx_queue_of.ghosts)
 tx_queue = search parts depth 60
 
+-- each variant by itself: one search for all of them would be too long
 pub end : IsSend End.the_row
-end = search (sendable, crosses, rx_driving, rx_serving, tx_driving, tx_serving, packets, rx_device, rx_queue, tx_device, tx_queue) depth 40
+end =
+    let each : EachSend (variants End.the_type) = (
+      (search (sendable, crosses, rx_driving) depth 40, tt),
+      ((
+        (search (sendable, crosses, rx_serving) depth 40, tt),
+        ((
+          (search (sendable, crosses, tx_driving) depth 40, tt),
+          ((
+            (search (sendable, crosses, tx_serving) depth 40, tt),
+            ((
+              (search (sendable, crosses, rx_queue) depth 40, tt),
+              ((
+                (search (sendable, crosses, rx_device) depth 40, tt),
+                ((
+                  (search (sendable, crosses, tx_queue) depth 40, tt),
+                  ((
+                    (search (sendable, crosses, tx_device) depth 40, tt),
+                    ((
+                      (search (sendable, crosses, packets) depth 40, tt),
+                      ((
+                        (search (sendable, crosses, pool) depth 40, tt),
+                        (
+                            tt),
+                      )),
+                    )),
+                  )),
+                )),
+              )),
+            )),
+          )),
+        )),
+      )),
+    )
+    in recorded_send (Enum (shape End.the_type)) End.the_type.D End.the_type.to End.the_type.to_one (enum_send (shape End.the_type) each)

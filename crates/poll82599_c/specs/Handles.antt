@@ -1,5 +1,5 @@
 -- The object of each kind that a handle may hold.
-use Rattle.std.specs.Prelude.{Option, Some, None}
+use Rattle.std.specs.Prelude.{ℕ, List, Option, Some, None}
 use Rattle.rx_ring.specs.Ends as rx
 use Rattle.tx_ring.specs.Ends as tx
 use Rattle.driver.specs.receive.Receiver.{Receiver}
@@ -8,7 +8,7 @@ use Rattle.controller.specs.Receiving.{Receiving}
 use Rattle.poll82599_c.specs.batches.Packets.{Worked}
 use Rattle.poll82599_c.specs.batches.Transmitting.{SendingDevice}
 use Rattle.poll82599_c.specs.declared.end.End.{End}
-use Rattle.poll82599_c.specs.declared.end.End.TheVariants.{RxDriver, RxController, TxDriver, TxController, RxQueue, RxDevice, TxQueue, TxDevice, Packets}
+use Rattle.poll82599_c.specs.declared.end.End.TheVariants.{RxDriver, RxController, TxDriver, TxController, RxQueue, RxDevice, TxQueue, TxDevice, Packets, Pool}
 
 -- an end of a ring, step by step
 
@@ -28,7 +28,7 @@ abbrev pub as_tx_controller : Option End → Option tx.ControllerSide
 as_tx_controller (Some (TxController c)) = Some c
 as_tx_controller _ = None
 
--- a queue's driver or its device, in batches, or a worker's packets
+-- a queue's driver or its device, in batches, a worker's packets, or a pool of buffers
 
 abbrev pub as_rx_queue : Option End → Option Receiver
 as_rx_queue (Some (RxQueue q)) = Some q
@@ -54,3 +54,7 @@ as_sender _ = None
 abbrev pub as_packets : Option End → Option Worked
 as_packets (Some (Packets p)) = Some p
 as_packets _ = None
+
+abbrev pub as_pool : Option End → Option (List ℕ)
+as_pool (Some (Pool p)) = Some p
+as_pool _ = None

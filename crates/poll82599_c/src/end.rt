@@ -1,9 +1,9 @@
 //! The object behind a handle.
 
-use crate::batches::{Packets, RxDevice, RxQueue, TxDevice, TxQueue};
+use crate::batches::{Packets, Pool, RxDevice, RxQueue, TxDevice, TxQueue};
 use crate::rings::{RxDriving, RxServing, TxDriving, TxServing};
 
-/// One end of a ring, step by step or in batches, or a worker's packets.
+/// One end of a ring, step by step or in batches, a worker's packets, or a pool of buffers.
 #[derive(Drop)]
 pub enum End {
     /// A receive ring's driver.
@@ -24,4 +24,6 @@ pub enum End {
     TxDevice(TxDevice),
     /// A worker's packets.
     Packets(Packets),
+    /// A pool of empty buffers.
+    Pool(Pool),
 }

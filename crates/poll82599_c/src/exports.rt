@@ -1,6 +1,8 @@
-//! The exported functions: they make a ring, a queue or a worker's packets, step the object that a handle holds, and
-//! close it. They are grouped by task, so that both directions are side by side.
+//! The exported functions: they make a ring, a queue, a worker's packets or a pool, step the object that a handle holds,
+//! and close it. They are grouped by task, so that both directions are side by side.
 
 mod calling;
 mod closing;
 mod making;
+mod reading;
+mod supplying;

@@ -1,4 +1,4 @@
-//! The handle by which a program owns an end or a worker's packets: one pointer.
+//! The handle by which a program owns an end, a worker's packets or a pool: one pointer.
 ghost use Rattle.std.specs.Prelude.{◌≡◌, ◌≢◌, ◌⊎◌, true, false, Option, Some, None, IfNone, IfSome, MatchOption};
 ghost use Rattle.poll82599_c.specs.declared.end.End.{End as Held};
 

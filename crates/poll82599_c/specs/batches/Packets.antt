@@ -196,6 +196,20 @@ TriedMove zero i from to from' to' = (IsAbsent i from ⊎ (length to.packets ≡
 TriedMove (suc zero) i from to from' to' = MovedPacket i from to from' to'
 TriedMove _ i from to from' to' = ⊥
 
+-- the length and the number of buffers of the packet at this place
+pub record Measured (i len segments : ℕ) (old new : Worked) : Type 0 where
+  pub packet : List Buffer
+  pub there : IsAt old i packet
+  pub len_is : len ≡ length (bytes_of packet)
+  pub segments_are : segments ≡ length packet
+  pub same : new ≡ old
+
+-- 1: the packet was measured; 0: there is none
+abbrev pub TriedMeasure : ℕ → ℕ → ℕ → ℕ → Worked → Worked → Type 0
+TriedMeasure zero i len segments old new = IsAbsent i old × (new ≡ old)
+TriedMeasure (suc zero) i len segments old new = Measured i len segments old new
+TriedMeasure _ i len segments old new = ⊥
+
 -- 1: these were counted
 abbrev pub TriedCount : ℕ → ℕ → ℕ → Worked → Worked → Type 0
 TriedCount (suc zero) packets buffers old new = Counted packets buffers old new
@@ -209,4 +223,5 @@ Handled (suc zero) asked told before after old new = TriedRead told.answer asked
 Handled (suc (suc zero)) asked told before after old new = TriedTouch told.answer asked.packet asked.at asked.byte old new × (after ≡ before)
 Handled (suc (suc (suc zero))) asked told before after old new = TriedRelease told.answer asked.packet old new × (after ≡ before)
 Handled (suc (suc (suc (suc zero)))) asked told before after old new = TriedCount told.answer told.packet told.len old new × (after ≡ before)
+Handled (suc (suc (suc (suc (suc zero))))) asked told before after old new = TriedMeasure told.answer asked.packet told.len told.at old new × (after ≡ before)
 Handled _ asked told before after old new = (told.answer ≡ 4294967295) × (new ≡ old) × (after ≡ before)

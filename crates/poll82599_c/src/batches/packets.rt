@@ -5,9 +5,13 @@ ghost use Rattle.buffer_pool.specs.Packed.{IsPacket};
 ghost use Rattle.buffer_pool.specs.declared.stash.TheConstants.{STASH_BUFFERS};
 ghost use Rattle.limits.specs.declared.profile.TheConstants.{BUFFER_BYTES, MOST_SEGMENTS};
 ghost use Rattle.ring_model.specs.shared.Frames.{HasFrameLength};
-ghost use Rattle.poll82599_c.specs.batches.Packets.{HasNoByte, IsMade, Packed, Pushed, SetIn, TriedAppend, TriedCopy, TriedExtend, TriedMove, TriedPut, TriedRead, TriedRelease, TriedTouch, numbers_of};
+ghost use Rattle.poll82599_c.specs.batches.Pools.{TriedRefill, TriedReturn};
+ghost use Rattle.poll82599_c.specs.batches.Ranges.{TriedReadRange, TriedWriteRange};
+ghost use Rattle.poll82599_c.specs.batches.Packets.{HasNoByte, IsMade, Packed, Pushed, SetIn, TriedAppend, TriedCopy, TriedExtend, TriedMeasure, TriedMove, TriedPut, TriedRead, TriedRelease, TriedTouch, numbers_of};
 
 use crate::batches::found::Found;
+use crate::batches::pool::{POOL_BUFFERS, Pool};
+use crate::batches::ranges::{copy_range, has_range, patch_in};
 use crate::end::End;
 use crate::makings::{Unmade, boxed, stash_of};
 use arrayvec::ArrayVec;
@@ -127,6 +131,44 @@ impl Packets {
         0
     }
 
+    /// Measures packet `i`. Returns 1, its length and how many buffers it has; or 0 if there is no such packet.
+    pub(crate) fn measure(&self, i: usize) -> (Found, usize)
+        ensures step { TriedMeasure result.0.answer i result.0.count result.1 self.now self.now }
+    {
+        match self.list.as_slice().get(i) {
+            None => (Found::nothing(0), 0),
+            Some(packet) => {
+                let count = packet.len();
+                (Found { answer: 1, count }, packet.segments())
+            }
+        }
+    }
+
+    /// Fills `room` with the bytes of packet `i` from `at` on. Returns 1, or 0 if there is no such packet, or it ends before
+    /// the range.
+    pub(crate) fn read(&self, i: usize, at: usize, room: &mut [u8]) -> u32
+        ensures step { TriedReadRange result i at room.old room.new self.now self.now }
+    {
+        match self.list.as_slice().get(i) {
+            Some(packet) if has_range(packet, at, room.len()) => {
+                copy_range(packet, at, room);
+                1
+            }
+            _ => 0,
+        }
+    }
+
+    /// Replaces the bytes of packet `i` from `at` on in place. Returns 1, or 0 if there is no such packet, or it ends before
+    /// the range.
+    pub(crate) fn write(&mut self, i: usize, at: usize, bytes: &[u8]) -> u32
+        ensures step { TriedWriteRange result i at bytes.now self.old self.new }
+    {
+        if patch_in(self.list.as_mut_slice(), i, at, bytes) {
+            return 1;
+        }
+        0
+    }
+
     /// Removes packet `i` and puts its buffers into the stash. Returns 1: done; 0: there is no such packet; 2: the
     /// stash has no room for them.
     pub(crate) fn release(&mut self, i: usize) -> u32
@@ -154,6 +196,33 @@ impl Packets {
         let moved = self.list.remove(i);
         other.list.push(moved);
         1
+    }
+
+    /// Takes empty buffers from a pool until the stash is full or the pool is empty. Returns 1: done, and how many; 0: the
+    /// stash is full, or the pool is empty.
+    pub(crate) fn refill(&mut self, pool: &mut Pool) -> Found
+        ensures step { TriedRefill result.answer result.count self.old pool.old self.new pool.new }
+    {
+        let count = pool.len().min(STASH_BUFFERS - self.stash.len());
+        if count == 0 {
+            return Found::nothing(0);
+        }
+        pool.give(&mut self.stash, count);
+        Found { answer: 1, count }
+    }
+
+    /// Returns up to `wanted` empty buffers to a pool. Returns 1: done, and how many; 0: none was wanted, the stash is
+    /// empty, or the pool is full.
+    pub(crate) fn give_back(&mut self, pool: &mut Pool, wanted: usize) -> Found
+        ensures step { TriedReturn result.answer wanted result.count self.old pool.old self.new pool.new }
+    {
+        let room = POOL_BUFFERS - pool.len();
+        let count = wanted.min(room).min(self.stash.len());
+        if count == 0 {
+            return Found::nothing(0);
+        }
+        pool.receive(&mut self.stash, count);
+        Found { answer: 1, count }
     }
 }
 

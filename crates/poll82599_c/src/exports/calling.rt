@@ -513,13 +513,14 @@ pub extern "C" fn poll82599_packet_move(
     }
 }
 
-/// Handles one of a worker's packets. The worker's thread calls it. With 0 to 3 the result is 0 if there is no such
+/// Handles one of a worker's packets. The worker's thread calls it. With 0 to 3 and 5 the result is 0 if there is no such
 /// packet or byte. The operations:
 /// - 0 copies a packet into `room`, with its length in `len`. 4: `room` is too small.
 /// - 1 reads a byte.
 /// - 2 replaces a byte in place.
 /// - 3 frees a packet into the stash. 2: the stash has no room for its buffers.
 /// - 4 counts the packets in `packet`, and the empty buffers in `len`.
+/// - 5 returns the packet's length in `len`, and how many buffers it has in `at`.
 #[unsafe(no_mangle)]
 pub extern "C" fn poll82599_packets_do(
     alloc: Global,
@@ -553,6 +554,12 @@ pub extern "C" fn poll82599_packets_do(
                 call.packet = held.list.len();
                 call.len = held.stash.len();
                 1
+            }
+            5 => {
+                let (found, segments) = held.measure(call.packet);
+                call.len = found.count;
+                call.at = segments;
+                found.answer
             }
             _ => NO_OPERATION,
         },

@@ -1,8 +1,8 @@
-//! The exports that close a ring, a queue or a worker's packets.
+//! The exports that close a ring, a queue, a worker's packets or a pool.
 //!
 //! No other thread may use a handle that is closed. Both handles of a pair must hold the ends of one ring.
-ghost use Rattle.std.specs.Prelude.{◌≡◌, ◌≢◌, ◌⊎◌, Some, None, IfErr, IfOk, OnErr, negsuc};
-ghost use Rattle.poll82599_c.specs.Handles.{as_packets, as_rx_controller, as_rx_device, as_rx_driver, as_rx_queue, as_tx_controller, as_tx_device, as_tx_driver, as_tx_queue};
+ghost use Rattle.std.specs.Prelude.{◌≡◌, ◌≢◌, ◌⊎◌, Some, None, length, IfErr, IfOk, OnErr, negsuc};
+ghost use Rattle.poll82599_c.specs.Handles.{as_packets, as_pool, as_rx_controller, as_rx_device, as_rx_driver, as_rx_queue, as_tx_controller, as_tx_device, as_tx_driver, as_tx_queue};
 ghost use Rattle.poll82599_c.specs.Pairs.{IsPair, LacksOne};
 ghost use Rattle.poll82599_c.specs.Held.{AreClosed, Of};
 ghost use Rattle.poll82599_c.specs.batches.Packets.{HadPackets};
@@ -147,6 +147,28 @@ pub extern "C" fn poll82599_packets_close(alloc: Global, packets: &mut Handle) -
         End::Packets(held) => held.list.len(),
         _ => {
             packets.put(end);
+            return usize::MAX;
+        }
+    };
+    drop(end);
+    count
+}
+
+/// Frees a pool's buffers. Returns how many there were, or `usize::MAX` if the handle is empty or of another kind, and
+/// leaves it then.
+#[unsafe(no_mangle)]
+pub extern "C" fn poll82599_pool_close(alloc: Global, pool: &mut Handle) -> usize
+    ensures count { Of (λ numbers. result ≡ length numbers) (as_pool pool.old.held) }
+    ensures empty { Of (λ _. pool.new.held ≡ None) (as_pool pool.old.held) }
+    ensures other { as_pool pool.old.held ≡ None → (result ≡ 18446744073709551615) × (pool.new.held ≡ pool.old.held) }
+{
+    let Some(end) = pool.take(alloc) else {
+        return usize::MAX;
+    };
+    let count = match &*end {
+        End::Pool(held) => held.len(),
+        _ => {
+            pool.put(end);
             return usize::MAX;
         }
     };

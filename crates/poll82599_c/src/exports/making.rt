@@ -4,15 +4,16 @@ ghost use Rattle.limits.specs.RingLength.{IsRingLength};
 ghost use Rattle.limits.specs.FillSize.{IsFillSize};
 ghost use Rattle.ring_model.specs.declared.states.Completion.TheVariants as by;
 ghost use Rattle.ffi_handle.specs.Words.{is_set};
-ghost use Rattle.poll82599_c.specs.Handles.{as_packets, as_rx_controller, as_rx_device, as_rx_driver, as_rx_queue, as_sender, as_tx_controller, as_tx_device, as_tx_driver, as_tx_queue};
+ghost use Rattle.poll82599_c.specs.Handles.{as_packets, as_pool, as_rx_controller, as_rx_device, as_rx_driver, as_rx_queue, as_sender, as_tx_controller, as_tx_device, as_tx_driver, as_tx_queue};
 ghost use Rattle.poll82599_c.specs.Held.{There};
+ghost use Rattle.poll82599_c.specs.Stashes.{AreBuffers};
 ghost use Rattle.poll82599_c.specs.batches.Packets.{IsMade};
 ghost use Rattle.poll82599_c.specs.batches.Receiving as rx_queue;
 ghost use Rattle.poll82599_c.specs.batches.Transmitting as tx_queue;
 ghost use Rattle.poll82599_c.specs.rings.RxEnds as rx;
 ghost use Rattle.poll82599_c.specs.rings.TxEnds as tx;
 
-use crate::batches::fresh_packets;
+use crate::batches::{fresh_packets, fresh_pool};
 use crate::handle::Handle;
 use crate::makings::{completion_of, put_both, put_one, rx_ends, rx_queue, tx_ends, tx_queue};
 use ffi_handle::is_set;
@@ -147,4 +148,17 @@ pub extern "C" fn poll82599_packets_new(alloc: Global, buffers: u32, packets: &m
     ensures kept { (result ≢ pos 0) → (result ≢ pos 5) → packets.new ≡ packets.old }
 {
     put_one(alloc, fresh_packets(alloc, buffers), packets)
+}
+
+/// Makes a pool of `buffers` empty buffers. Returns 0: done; 2: memory was refused; 3: `buffers` is not 16 to 65,536; 5:
+/// the handle holds an object. Only 0 changes the handle.
+#[unsafe(no_mangle)]
+pub extern "C" fn poll82599_pool_new(alloc: Global, buffers: u32, pool: &mut Handle) -> i32
+    ensures made { (result ≡ pos 0) → There (AreBuffers buffers) (as_pool pool.new.held) }
+    ensures buffers { (result ≡ pos 3) → (buffers < 16) ⊎ (65536 < buffers) }
+    ensures was_empty { (result ≡ pos 0) → pool.old.held ≡ None }
+    ensures in_use { (result ≡ pos 5) → (pool.old.held ≢ None) × (pool.new.held ≡ pool.old.held) }
+    ensures kept { (result ≢ pos 0) → (result ≢ pos 5) → pool.new ≡ pool.old }
+{
+    put_one(alloc, fresh_pool(alloc, buffers), pool)
 }

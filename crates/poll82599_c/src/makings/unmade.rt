@@ -4,14 +4,14 @@ ghost use Rattle.refusals.specs.declared.errors.RingError.TheVariants.{RingLengt
 
 use shared_ring::RingError;
 
-/// The reason why an export made no end, queue or worker's packets.
+/// The reason why an export made no end, queue, worker's packets or pool.
 #[derive(Drop)]
 pub(crate) enum Unmade {
     /// The ring's length is not a power of two from 8 to 4,096.
     Length,
     /// Memory was refused.
     Memory,
-    /// The number of buffers is not 16 to 256.
+    /// The number of buffers is out of range.
     Buffers,
     /// A batch is not 1 to 32 packets, buffers are not filled to 1,024 or 2,048 bytes, or reports are not asked for
     /// with each 1st to 4,096th frame.

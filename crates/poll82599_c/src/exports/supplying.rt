@@ -1,0 +1,64 @@
+//! The exports that move empty buffers between a worker and a pool, and count them.
+ghost use Rattle.std.specs.Prelude.{◌≡◌, ◌<◌, ◌⊎◌, None, length};
+ghost use Rattle.poll82599_c.specs.Handles.{as_packets, as_pool};
+ghost use Rattle.poll82599_c.specs.Held.{Among, Of};
+ghost use Rattle.poll82599_c.specs.batches.Pools.{Supplied};
+
+use crate::batches::Found;
+use crate::call::{NO_OPERATION, Poll82599Queue};
+use crate::end::End;
+use crate::handle::{Handle, take_both};
+use std::alloc::Global;
+
+/// Moves empty buffers between a worker and a pool, and counts them in `count`. One thread at a time uses the pool. The
+/// operations:
+/// - 0 takes buffers from the pool until the worker has 256 or the pool is empty. 0: the worker has 256, or the pool is
+///   empty.
+/// - 1 returns up to `count` buffers to the pool, which has room for 65,536. 0: `count` is 0, the worker has none, or the
+///   pool is full.
+#[unsafe(no_mangle)]
+pub extern "C" fn poll82599_pool_move(
+    alloc: Global,
+    packets: &mut Handle,
+    pool: &mut Handle,
+    call: &mut Poll82599Queue,
+)
+    ensures other { (as_packets packets.old.held ≡ None) ⊎ (as_pool pool.old.held ≡ None) → (call.new.answer ≡ 4294967295) × (packets.new.held ≡ packets.old.held) × (pool.new.held ≡ pool.old.held) }
+    ensures step { Among (Supplied call.old.operation call.new.answer call.old.count call.new.count) (as_packets packets.old.held) (as_pool pool.old.held) (as_packets packets.new.held) (as_pool pool.new.held) }
+    ensures kept { (1 < call.old.operation) → (packets.new.held ≡ packets.old.held) × (pool.new.held ≡ pool.old.held) }
+{
+    let Some((mut worker, mut end)) = take_both(alloc, packets, pool) else {
+        call.answer = NO_OPERATION;
+        return;
+    };
+    let found = match (&mut *worker, &mut *end) {
+        (End::Packets(held), End::Pool(shared)) => match call.operation {
+            0 => held.refill(shared),
+            1 => held.give_back(shared, call.count),
+            _ => Found::nothing(NO_OPERATION),
+        },
+        _ => Found::nothing(NO_OPERATION),
+    };
+    call.answer = found.answer;
+    call.count = found.count;
+    packets.put(worker);
+    pool.put(end);
+}
+
+/// Counts the buffers in a pool. Returns `usize::MAX` if the handle is empty or of another kind.
+#[unsafe(no_mangle)]
+pub extern "C" fn poll82599_pool_count(alloc: Global, pool: &mut Handle) -> usize
+    ensures count { Of (λ numbers. result ≡ length numbers) (as_pool pool.old.held) }
+    ensures other { as_pool pool.old.held ≡ None → result ≡ 18446744073709551615 }
+    ensures kept { pool.new.held ≡ pool.old.held }
+{
+    let Some(end) = pool.take(alloc) else {
+        return usize::MAX;
+    };
+    let count = match &*end {
+        End::Pool(held) => held.len(),
+        _ => usize::MAX,
+    };
+    pool.put(end);
+    count
+}
