@@ -76,7 +76,11 @@ fn is_cut<R: Threads + Wait + Clock + Sync + Abort>(rt: &R, alloc: Global, cut: 
 }
 
 /// Whether flow 1 is cut at the turn in which a flag is set, with no limit on the turns.
-fn is_cut_by_a_flag<R: Threads + Wait + Clock + Sync + Abort>(rt: &R, alloc: Global, cut: Cut<'_>) -> bool {
+fn is_cut_by_a_flag<R: Threads + Wait + Clock + Sync + Abort>(
+    rt: &R,
+    alloc: Global,
+    cut: Cut<'_>,
+) -> bool {
     let config = Config {
         retry: cut.retry,
         ..SHORT

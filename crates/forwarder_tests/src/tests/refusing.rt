@@ -13,7 +13,10 @@ use std::sync::Wait;
 use std::thread::Threads;
 
 /// Whether forwarding is refused by a gate that refuses after this number of passes.
-pub(crate) fn is_refused<R: Threads + Wait + Clock + Sync + Abort>(rt: &R, trial: Trial<'_>) -> bool {
+pub(crate) fn is_refused<R: Threads + Wait + Clock + Sync + Abort>(
+    rt: &R,
+    trial: Trial<'_>,
+) -> bool {
     let config = Config {
         workers: trial.workers,
         ..SHORT

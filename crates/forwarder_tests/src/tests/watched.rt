@@ -36,7 +36,10 @@ fn all_see<R: Wait>(rt: &R, readers: &mut [Reader<'_>], flows: &[FlowReport]) ->
 }
 
 /// Whether each cell has its flow's numbers after the 40 frames passed rings of 8.
-pub(crate) fn are_shown<R: Threads + Wait + Clock + Sync + Abort>(rt: &R, trial: Trial<'_>) -> bool {
+pub(crate) fn are_shown<R: Threads + Wait + Clock + Sync + Abort>(
+    rt: &R,
+    trial: Trial<'_>,
+) -> bool {
     let Trial { alloc, script, .. } = trial;
     let config = Config {
         workers: trial.workers,
@@ -185,7 +188,11 @@ fn watch_driven<R: Wait>(rt: &R, cell: &DriveCell, mut pass: DrivePass) -> bool
 }
 
 /// Reads both cells of a flow in threads of their own.
-fn watch<R: Threads + Wait + Clock + Sync + Abort>(rt: &R, reader: Reader<'_>, gate: &Paced) -> bool {
+fn watch<R: Threads + Wait + Clock + Sync + Abort>(
+    rt: &R,
+    reader: Reader<'_>,
+    gate: &Paced,
+) -> bool {
     let Reader { cells, stat, drive } = reader;
     let (offered, driven) = thread::join(
         rt,
