@@ -25,7 +25,8 @@
  * Results:
  * - poll82599_..._new, poll82599_decode, poll82599_encode, poll82599_moves and poll82599_once return 0 when it is done. Any other
  *   number is a refusal and leaves handles and bytes as they were.
- * - poll82599_..._close returns how many buffers were in the ring or the pool (poll82599_packets_close: how many packets there were).
+ * - poll82599_..._close returns how many buffers were in the ring or the pool (poll82599_packets_close: how many packets there were;
+ *   poll82599_counters_close: 0).
  * - poll82599_..._state and poll82599_..._device_control return a control word, POLL82599_OFF to POLL82599_DISABLE_ASKED.
  * - poll82599_packets_count, poll82599_pool_count and poll82599_rx_device_counts return counts.
  * - All other calls return 1 when it is done. 0 means not now, or nothing to do. The other numbers are listed at each call.
@@ -63,7 +64,8 @@ enum {
     POLL82599_MOST_PAIRS = 8,       /* of queues in a list of moves */
     POLL82599_LEAST_BUFFERS = 16,   /* of a driver or a worker: at least this .. */
     POLL82599_MOST_BUFFERS = 256,
-    POLL82599_POOL_BUFFERS = 65536  /* the most of a pool */
+    POLL82599_POOL_BUFFERS = 65536, /* the most of a pool */
+    POLL82599_COUNTERS = 8          /* of a set */
 };
 
 /* The results of the ..._new calls, in the `int32_t` that they return. */
@@ -395,6 +397,7 @@ static inline uint32_t poll82599_tx_send(struct poll82599_tx_controller *control
 
 struct poll82599_packets { uint8_t *end; };
 struct poll82599_pool { uint8_t *end; };
+struct poll82599_counters { uint8_t *end; };
 struct poll82599_rx_queue { uint8_t *end; };
 struct poll82599_rx_device { uint8_t *end; };
 struct poll82599_tx_queue { uint8_t *end; };
@@ -480,6 +483,11 @@ int32_t poll82599_pool_new(uint32_t buffers, struct poll82599_pool *pool);
 void poll82599_pool_move(struct poll82599_packets *packets, struct poll82599_pool *pool, struct poll82599_batch *call);
 size_t poll82599_pool_count(struct poll82599_pool *pool);
 size_t poll82599_pool_close(struct poll82599_pool *pool);
+int32_t poll82599_counters_new(struct poll82599_counters *counters);
+int32_t poll82599_counters_reader(struct poll82599_counters *counters, struct poll82599_counters *reader);
+uint32_t poll82599_counters_set(struct poll82599_counters *counters, size_t at, uint64_t number);
+uint32_t poll82599_counters_get(struct poll82599_counters *reader, size_t at, uint64_t *number);
+int64_t poll82599_counters_close(struct poll82599_counters *counters);
 int32_t poll82599_rx_queue_new(uint32_t descriptors, size_t batch, size_t fill, uint32_t drop_en, struct poll82599_rx_queue *queue, struct poll82599_rx_device *device);
 void poll82599_rx_queue_move(struct poll82599_rx_queue *queue, struct poll82599_packets *packets, struct poll82599_batch *call);
 void poll82599_rx_queue_do(struct poll82599_rx_queue *queue, struct poll82599_batch *call);
@@ -496,6 +504,9 @@ int64_t poll82599_tx_queue_close(struct poll82599_tx_queue *queue, struct poll82
  *
  * poll82599_pool_new makes a pool of `buffers` empty buffers. Returns 0, 2 and 5 as above; 3: `buffers` is not 16 to 65,536.
  * poll82599_pool_count returns how many buffers are in the pool. poll82599_pool_close frees them and returns how many they were.
+ *
+ * poll82599_counters_new makes 8 counters, all 0, and the handle of the thread that writes them. poll82599_counters_reader makes a handle
+ * by which another thread reads them. Both return 0, 2 and 5 as above; poll82599_counters_reader 4: the first handle is no writer's.
  *
  * poll82599_rx_queue_new makes a receive queue of `descriptors` descriptors. Its driver takes up to `batch` packets at once, 1 to 32.
  * Its device fills buffers to `fill` bytes, 1,024 or 2,048. When too few descriptors are free the device drops a frame if `drop_en` is
@@ -608,6 +619,15 @@ static inline uint32_t poll82599_packets_refill(struct poll82599_packets *packet
 /* Returns up to `wanted` empty buffers of the worker to the pool. Returns 1: done, `*count` buffers; 0: none was wanted, the worker has none,
  * or the pool has 65,536. `count` may be null. */
 static inline uint32_t poll82599_packets_return(struct poll82599_packets *packets, struct poll82599_pool *pool, size_t wanted, size_t *count) { return poll82599_pool_step(packets, pool, POLL82599_POOL_RETURN, wanted, count); }
+
+/* ---- Counters.
+ *
+ * A thread tells others how far it is: it writes counters, and other threads read them, each by a reader of its own. A call makes one
+ * store or one or two loads, and none waits. What a counter counts is up to the program: the frames taken, posted or sent, for example.
+ *
+ * poll82599_counters_set writes counter `at`. Returns 1: done; 0: `at` is not below 8, or the counter is above `number`.
+ * poll82599_counters_get reads counter `at`, by a reader's handle only. Returns 1: done; 0: `at` is not below 8. No counter falls from one
+ * call of a reader to the next, and none is below what it was when the reader was made. */
 
 /* ---- The driver's thread. */
 
@@ -752,6 +772,23 @@ static inline struct poll82599_offered poll82599_rx_device_counts(struct poll825
     struct poll82599_offered call = {POLL82599_RX_DEVICE_COUNTS, 0, 0, 0, 0, 0};
     poll82599_rx_device_do(device, &call, &none, 0);
     return call;
+}
+
+/* Writes those counts to counters 0 to 3, in this order: stored, dropped, oversize, offered. So a thread that reads counter 3 first finds
+ * at least as many frames in the other three. Returns 1: done. */
+static inline uint32_t poll82599_rx_device_publish(struct poll82599_rx_device *device, struct poll82599_counters *counters)
+{
+    struct poll82599_offered counts = poll82599_rx_device_counts(device);
+    uint64_t numbers[4];
+    uint32_t answer = counts.answer;
+    size_t at;
+    numbers[0] = counts.stored;
+    numbers[1] = counts.dropped;
+    numbers[2] = counts.oversize;
+    numbers[3] = counts.offered;
+    for (at = 0; at < 4 && answer == POLL82599_DONE; at++)
+        answer = poll82599_counters_set(counters, at, numbers[at]);
+    return answer;
 }
 
 /* Sends the next frame, in the order in which they were posted, and reports it if it asks for a report. Returns 1: the frame is at the

@@ -91,6 +91,11 @@ def _loaded():
         "pool_move": (None, handle, handle, POINTER(_Batch)),
         "pool_count": (size, handle),
         "pool_close": (size, handle),
+        "counters_new": (c_int32, handle),
+        "counters_reader": (c_int32, handle, handle),
+        "counters_set": (c_uint32, handle, size, c_uint64),
+        "counters_get": (c_uint32, handle, size, POINTER(c_uint64)),
+        "counters_close": (c_int64, handle),
         "rx_queue_new": (c_int32, c_uint32, size, size, c_uint32, handle, handle),
         "rx_queue_move": (None, handle, handle, POINTER(_Batch)),
         "rx_queue_do": (None, handle, POINTER(_Batch)),
@@ -364,6 +369,43 @@ class Pool:
 
     def __len__(self):
         return _calls["pool_count"](byref(self._handle))
+
+
+class Counters:
+    """Eight counters, which one thread writes. Other threads read them, each by a reader of its own."""
+
+    def __init__(self):
+        self._handle = _Handle()
+        refusal = _calls["counters_new"](byref(self._handle))
+        if refusal:
+            raise Refused(_made[refusal])
+
+    def __del__(self):
+        _calls["counters_close"](byref(self._handle))
+
+    def set(self, at, number):
+        """Writes a counter. False: `at` is not below 8, or the counter is above the number."""
+        return _done(_calls["counters_set"](byref(self._handle), at, number))
+
+    def reader(self):
+        reader = CounterReader.__new__(CounterReader)
+        reader._handle = _Handle()
+        refusal = _calls["counters_reader"](byref(self._handle), byref(reader._handle))
+        if refusal:
+            raise Refused(_made[refusal])
+        return reader
+
+
+class CounterReader:
+    """Reads counters. None falls from one reading to the next. `Counters.reader` makes one."""
+
+    def __del__(self):
+        _calls["counters_close"](byref(self._handle))
+
+    def get(self, at):
+        """A counter, or None if `at` is not below 8."""
+        number = c_uint64()
+        return number.value if _done(_calls["counters_get"](byref(self._handle), at, byref(number))) else None
 
 
 class _Queue:

@@ -4,7 +4,7 @@ import threading
 import unittest
 
 import poll82599
-from poll82599 import OFF, ON, Packets, Pool, Refused, RxQueue, RxRing, TxQueue, TxRing, close
+from poll82599 import OFF, ON, Counters, Packets, Pool, Refused, RxQueue, RxRing, TxQueue, TxRing, close
 
 
 def frame(k):
@@ -140,6 +140,21 @@ class Batches(unittest.TestCase):
             packets.free(0)
         self.assertEqual(packets.give_back(pool, 0), 0)
         self.assertIn("of a pool 16 to 65,536", refusal(Pool, 15))
+
+    def test_a_thread_reads_counters(self):
+        counters, seen = Counters(), []
+        reader = counters.reader()
+
+        def read():
+            while not seen or seen[-1] < 100:
+                seen.append(reader.get(0))
+
+        thread = threading.Thread(target=read)
+        thread.start()
+        self.assertTrue(all(counters.set(0, number) for number in range(101)))
+        thread.join()
+        self.assertEqual(seen, sorted(seen))
+        self.assertEqual((counters.set(0, 99), counters.set(8, 1), reader.get(8)), (False, False, None))
 
     def test_refusals_have_reasons(self):
         queue, device = RxQueue(8)

@@ -15,12 +15,14 @@ static void expect(const char *what, long long got, long long wanted)
 
 static struct poll82599_packets packets;
 static struct poll82599_pool pool;
+static struct poll82599_counters counters, reader;
 static struct poll82599_rx_queue rx;
 static struct poll82599_rx_device rx_device;
 static struct poll82599_tx_queue tx;
 static struct poll82599_tx_device tx_device;
 static uint8_t frame[POLL82599_MOST_FRAME + 1], got[POLL82599_MOST_FRAME];
 static size_t count, moved, len, empty;
+static uint64_t number;
 static uint8_t byte;
 
 /* Calls with empty handles, at the start and after everything is closed. */
@@ -31,6 +33,10 @@ static void use_empty_handles(void)
     expect("refill, empty handles", poll82599_packets_refill(&packets, &pool, &count), POLL82599_NO_END);
     expect("count, empty pool", poll82599_pool_count(&pool) == SIZE_MAX, 1);
     expect("close an empty pool", poll82599_pool_close(&pool) == SIZE_MAX, 1);
+    expect("write, empty counters", poll82599_counters_set(&counters, 0, 1), POLL82599_NO_END);
+    expect("read, empty reader", poll82599_counters_get(&reader, 0, &number), POLL82599_NO_END);
+    expect("make a reader of empty counters", poll82599_counters_reader(&counters, &reader), 4);
+    expect("close empty counters", poll82599_counters_close(&counters), POLL82599_NOT_CLOSED);
     expect("read, empty packets", poll82599_packet_read(&packets, 0, 0, got, 1), POLL82599_NO_END);
     expect("write, empty packets", poll82599_packet_write(&packets, 0, 0, frame, 1), POLL82599_NO_END);
     expect("receive a batch, empty queue", poll82599_rx_batch(&rx, &packets, &count, &moved), POLL82599_NO_END);
@@ -50,6 +56,7 @@ static void mix_handles(void)
     struct poll82599_packets none = {0};
     expect("receive a batch into empty packets", poll82599_rx_batch(&rx, &none, &count, NULL), POLL82599_NO_END);
     expect("return buffers to a queue cast to a pool", poll82599_packets_return(&packets, (struct poll82599_pool *)&rx, 1, &count), POLL82599_NO_END);
+    expect("close packets cast to counters", poll82599_counters_close((struct poll82599_counters *)&packets), POLL82599_NOT_CLOSED);
     expect("close packets cast to a pool", poll82599_pool_close((struct poll82599_pool *)&packets) == SIZE_MAX, 1);
     expect("offer, transmit device cast to a receive device", poll82599_offer((struct poll82599_rx_device *)&tx_device, frame, 60), POLL82599_NO_END);
     expect("close a receive queue with a transmit device", poll82599_rx_queue_close(&rx, (struct poll82599_rx_device *)&tx_device), POLL82599_NOT_CLOSED);
@@ -272,6 +279,34 @@ static void use_a_pool(void)
     expect("buffers in the pool", (long long)poll82599_pool_count(&pool), 4216);
 }
 
+/* Reads a counter, and expects this number. */
+static void expect_counter(size_t at, long long wanted)
+{
+    number = 99;
+    expect("read a counter", poll82599_counters_get(&reader, at, &number), 1);
+    expect("its number", (long long)number, wanted);
+}
+
+/* Counters, which the device of the next queue writes. */
+static void use_counters(void)
+{
+    expect("make counters", poll82599_counters_new(&counters), 0);
+    expect("make counters in a handle in use", poll82599_counters_new(&counters), 5);
+    expect("write counter 7", poll82599_counters_set(&counters, 7, 5), 1);
+    expect("make a reader", poll82599_counters_reader(&counters, &reader), 0);
+    expect("make a reader in a handle in use", poll82599_counters_reader(&counters, &reader), 5);
+    expect("make a reader of a reader", poll82599_counters_reader(&reader, &counters), 4);
+    expect("write counter 7 with less", poll82599_counters_set(&counters, 7, 4), 0);
+    expect("write counter 7 with as much", poll82599_counters_set(&counters, 7, 5), 1);
+    expect("write counter 8", poll82599_counters_set(&counters, 8, 6), 0);
+    expect("write by a reader", poll82599_counters_set(&reader, 7, 6), POLL82599_NO_END);
+    expect_counter(7, 5);
+    expect_counter(6, 0);
+    expect("read counter 8", poll82599_counters_get(&reader, 8, &number), 0);
+    expect("read by the writer", poll82599_counters_get(&counters, 7, &number), POLL82599_NO_END);
+    expect("the number stays", (long long)number, 0);
+}
+
 /* Frame k of the ring of 4,096. */
 static const uint8_t *numbered(size_t k)
 {
@@ -312,6 +347,13 @@ static void fill_a_long_ring(void)
     expect("frames stored", (long long)stored, 4095);
     expect("frames taken in order", (long long)take_numbered(), 4095);
     expect("frames dropped", (long long)poll82599_rx_device_counts(&rx_device).dropped, 0);
+    expect("write the device's counts", poll82599_rx_device_publish(&rx_device, &counters), 1);
+    expect("write a device's counts by a reader", poll82599_rx_device_publish(&rx_device, &reader), POLL82599_NO_END);
+    expect("close the counters", poll82599_counters_close(&counters), 0);
+    expect_counter(0, 4095);
+    expect_counter(1, 0);
+    expect_counter(3, 4095);
+    expect("close the reader", poll82599_counters_close(&reader), 0);
     expect("ask for the queue to be disabled", poll82599_rx_queue_disable(&rx), 1);
     expect("the device answers", poll82599_rx_device_control(&rx_device), POLL82599_OFF);
     expect("finish after the answer", poll82599_rx_queue_finish(&rx, &left), 1);
@@ -335,6 +377,7 @@ int main(void)
     transmit();
     stop();
     use_a_pool();
+    use_counters();
     fill_a_long_ring();
     use_empty_handles();
     return wrong != 0;

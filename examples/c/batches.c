@@ -1,6 +1,6 @@
 /* A poll-mode forwarder in batches, with the main loop of ixy. One thread is the receive device, to which frames are offered. One drives a
- * receive and a transmit queue, and increments byte 1 of each packet in place. One is the transmit device, and compares each frame that it
- * sends. At the end the driver disables both queues and takes all buffers back.
+ * receive and a transmit queue, and increments byte 1 of each packet in place. One is the transmit device, which compares each frame that
+ * it sends and counts them for the driver. Once all are sent, the driver disables both queues and takes all buffers back.
  *
  *     batches [FRAMES [BYTES [BY_HEAD]]]     14 to 15,000 bytes; the library cuts frames into segments */
 #include <poll82599.h>
@@ -19,6 +19,7 @@ static struct poll82599_rx_device rx_device;
 static struct poll82599_tx_queue tx;
 static struct poll82599_tx_device tx_device;
 static struct poll82599_packets packets;
+static struct poll82599_counters sent, sent_reader;
 
 static uint64_t frames = 100000;
 static size_t bytes = 60;
@@ -65,14 +66,15 @@ static void *offer(void *unused)
 static void *turn(void *unused)
 {
     static uint8_t got[POLL82599_MOST_FRAME], wanted[POLL82599_MOST_FRAME];
-    uint64_t wrong = 0;
+    uint64_t wrong = 0, k = 0;
     unsigned tries = 0;
     (void)unused;
     while (poll82599_tx_device_control(&tx_device) != POLL82599_ON)
         wait(&tries);
-    for (uint64_t k = 0; k < frames;) {
+    while (k < frames) {
         size_t len;
         if (poll82599_turn(&tx_device, got, sizeof got, &len) != 1) {
+            poll82599_counters_set(&sent, 0, k);
             wait(&tries);
             continue;
         }
@@ -80,6 +82,7 @@ static void *turn(void *unused)
         wanted[1]++;
         wrong += len != bytes || memcmp(got, wanted, bytes) != 0;
     }
+    poll82599_counters_set(&sent, 0, k);
     while (poll82599_tx_device_control(&tx_device) != POLL82599_OFF)
         wait(&tries);
     return (void *)(uintptr_t)wrong;
@@ -135,6 +138,8 @@ static size_t drive(void)
         if (!more)
             wait(&tries);
     }
+    for (uint64_t number = 0; number < frames; wait(&tries))
+        poll82599_counters_get(&sent_reader, 0, &number);
     return stop();
 }
 
@@ -153,7 +158,7 @@ int main(int count, char **words)
     if (bytes < POLL82599_LEAST_FRAME || bytes > POLL82599_MOST_FRAME)
         return 2;
     if (poll82599_rx_queue_new(128, BATCH, POLL82599_BUFFER_BYTES, 0, &rx, &rx_device) || poll82599_tx_queue_new(128, BATCH, by_head, &tx, &tx_device) ||
-        poll82599_packets_new(BUFFERS, &packets))
+        poll82599_packets_new(BUFFERS, &packets) || poll82599_counters_new(&sent) || poll82599_counters_reader(&sent, &sent_reader))
         return 1;
     clock_gettime(CLOCK_MONOTONIC, &begun);
     pthread_create(&offering, 0, offer, 0);
@@ -165,6 +170,8 @@ int main(int count, char **words)
     struct poll82599_offered counts = poll82599_rx_device_counts(&rx_device);
     printf("%llu frames of %zu bytes, %llu wrong\n", (unsigned long long)counts.stored, bytes, (unsigned long long)(uintptr_t)wrong);
     printf("left in the queues: %zu segments; reclaimed: %zu buffers\n", left, back);
+    poll82599_counters_close(&sent_reader);
+    poll82599_counters_close(&sent);
     printf("closed with %lld and %lld buffers in the rings, and %zu packets\n", (long long)poll82599_rx_queue_close(&rx, &rx_device), (long long)poll82599_tx_queue_close(&tx, &tx_device), poll82599_packets_close(&packets));
     double took = (double)(ended.tv_sec - begun.tv_sec) * 1e9 + (double)(ended.tv_nsec - begun.tv_nsec);
     fprintf(stderr, "%.0f ns/frame\n", frames ? took / (double)frames : 0);

@@ -117,6 +117,11 @@ unsafe extern "C" {
     pub fn poll82599_pool_move(packets: *mut Handle, pool: *mut Handle, call: *mut Batch);
     pub fn poll82599_pool_count(pool: *mut Handle) -> usize;
     pub fn poll82599_pool_close(pool: *mut Handle) -> usize;
+    pub fn poll82599_counters_new(counters: *mut Handle) -> i32;
+    pub fn poll82599_counters_reader(counters: *mut Handle, reader: *mut Handle) -> i32;
+    pub fn poll82599_counters_set(counters: *mut Handle, at: usize, number: u64) -> u32;
+    pub fn poll82599_counters_get(reader: *mut Handle, at: usize, number: *mut u64) -> u32;
+    pub fn poll82599_counters_close(counters: *mut Handle) -> i64;
     pub fn poll82599_rx_queue_new(
         descriptors: u32,
         batch: usize,

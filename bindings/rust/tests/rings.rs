@@ -1,8 +1,8 @@
 //! Rings and queues between real threads, and what becomes of their ends.
 
 use poll82599::{
-    BUFFER_BYTES, Batched, Completion, Counts, MOST_FRAME, MakeError, Offer, Packets, Plan, Pool, Reclaimed, Refusal, RxController,
-    RxDevice, RxDriver, RxQueue, RxRing, RxSettings, State, TxDevice, TxQueue, TxRing, TxSettings, moves,
+    BUFFER_BYTES, Batched, COUNTERS, Completion, Counters, Counts, MOST_FRAME, MakeError, Offer, Packets, Plan, Pool, Reclaimed, Refusal,
+    RxController, RxDevice, RxDriver, RxQueue, RxRing, RxSettings, State, TxDevice, TxQueue, TxRing, TxSettings, moves,
 };
 use std::thread::{self, yield_now};
 
@@ -166,6 +166,11 @@ fn a_ring_of_4096_is_filled_from_a_pool_and_drops_nothing() {
         }
     }
     assert_eq!(device.counts(), Counts { offered: 4095, stored: 4095, dropped: 0, oversize: 0 });
+    let mut counters = Counters::new().expect("memory");
+    let mut reader = counters.reader().expect("memory");
+    assert!(counters.set(7, 5) && !counters.set(7, 4) && !counters.set(COUNTERS, 6) && counters.publish(&mut device));
+    drop(counters);
+    assert_eq!([0, 1, 3, 7, COUNTERS].map(|at| reader.get(at)), [Some(4095), Some(0), Some(4095), Some(5), None]);
     assert!(queue.disable());
     assert_eq!((device.control(), queue.finish()), (State::Off, Some(0)));
     while !queue.reclaim(&mut packets).expect("the queue is disabled").all {

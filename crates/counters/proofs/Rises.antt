@@ -10,7 +10,7 @@ use Rattle.counters.specs.Snapshots.{AreSnapshots, Follows, GoesOn, NoneFalls}
 use Rattle.counters.specs.Rule.{HoldsSeqCellRule, HasRead, HasWritten, known, snapshots_of, opened, told}
 
 -- no number falls where nothing changes, nor over two changes at which none does
-same_falls : (xs : List ℕ) → NoneFalls xs xs
+pub same_falls : (xs : List ℕ) → NoneFalls xs xs
 same_falls [] = tt
 same_falls (x ∷ xs) = (omega arith, same_falls xs)
 
@@ -43,7 +43,7 @@ module _ {T : Type 0} where
       (at_set all pass q new k f))
       (at_set all pass p new j e)
 
-  abbrev head_of : T → List T → T
+  abbrev pub head_of : T → List T → T
   head_of x [] = x
   head_of x (y ∷ ys) = y
 

@@ -5,3 +5,4 @@ pub mod Rule
 pub mod Viewed
 pub mod Cells
 pub mod FlowCounters
+pub mod Registers

@@ -25,6 +25,7 @@ mod flow_counters;
 mod flows;
 mod kinds;
 mod numbers;
+mod registers;
 mod rule;
 mod snapshot;
 mod tally;
@@ -40,6 +41,7 @@ pub use kinds::{
 };
 pub use numbers::{CellHolder, Numbers};
 pub use refusals::CounterError;
+pub use registers::{RegisterReader, RegisterWriter};
 pub use snapshot::Snapshot;
 pub use tally::{TALLY_NUMBERS, Tally};
 pub use totals::Totals;

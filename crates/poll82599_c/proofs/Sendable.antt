@@ -9,6 +9,8 @@ use Rattle.atomic_table.proofs.shared.Shared.TheSendSync as shared
 use Rattle.buffer_pool.proofs.chain.Chain.TheLaws.TheKnot.{send-Chain, sync-Chain}
 use Rattle.buffer_pool.proofs.chain.Room.TheSendSync as room
 use Rattle.counters.proofs.tally.Tally.TheSendSync as tally
+use Rattle.counters.specs.contracts.registers.RegisterReader as RegisterReader
+use Rattle.counters.specs.contracts.registers.RegisterWriter as RegisterWriter
 use Rattle.core.proofs.marker.PhantomData.TheSendSync as phantom
 use Rattle.core.proofs.option.Option.TheSendSync as option
 use Rattle.poll82599_c.proofs.rings.partial_frame.PartialFrame.TheSendSync as begun
@@ -62,6 +64,12 @@ packets = search parts depth 60
 pub pool : IsSend Pool.the_row
 pool = search (parts, vec.the_send) depth 60
 
+pub counters : IsSend RegisterWriter.the_row
+counters = search parts depth 60
+
+pub counter_reader : IsSend RegisterReader.the_row
+counter_reader = search parts depth 60
+
 pub rx_device : IsSend (Half.the_row RxRing.the_row RxController.the_row rx_ring.ghosts rx_device_of.ghosts)
 rx_device = search parts depth 60
 
@@ -97,8 +105,14 @@ end =
                       (search (sendable, crosses, packets) depth 40, tt),
                       ((
                         (search (sendable, crosses, pool) depth 40, tt),
-                        (
-                            tt),
+                        ((
+                          (search (sendable, crosses, counters) depth 40, tt),
+                          ((
+                            (search (sendable, crosses, counter_reader) depth 40, tt),
+                            (
+                                tt),
+                          )),
+                        )),
                       )),
                     )),
                   )),

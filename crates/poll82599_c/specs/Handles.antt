@@ -5,10 +5,11 @@ use Rattle.tx_ring.specs.Ends as tx
 use Rattle.driver.specs.receive.Receiver.{Receiver}
 use Rattle.driver.specs.transmit.Transmitter.{Transmitter}
 use Rattle.controller.specs.Receiving.{Receiving}
+use Rattle.poll82599_c.specs.Counting.{Counted}
 use Rattle.poll82599_c.specs.batches.Packets.{Worked}
 use Rattle.poll82599_c.specs.batches.Transmitting.{SendingDevice}
 use Rattle.poll82599_c.specs.declared.end.End.{End}
-use Rattle.poll82599_c.specs.declared.end.End.TheVariants.{RxDriver, RxController, TxDriver, TxController, RxQueue, RxDevice, TxQueue, TxDevice, Packets, Pool}
+use Rattle.poll82599_c.specs.declared.end.End.TheVariants.{RxDriver, RxController, TxDriver, TxController, RxQueue, RxDevice, TxQueue, TxDevice, Packets, Pool, Counters, CounterReader}
 
 -- an end of a ring, step by step
 
@@ -58,3 +59,13 @@ as_packets _ = None
 abbrev pub as_pool : Option End → Option (List ℕ)
 as_pool (Some (Pool p)) = Some p
 as_pool _ = None
+
+-- counters that one thread may write, and a reader of them
+
+abbrev pub as_counters : Option End → Option Counted
+as_counters (Some (Counters c)) = Some c
+as_counters _ = None
+
+abbrev pub as_counter_reader : Option End → Option Counted
+as_counter_reader (Some (CounterReader r)) = Some r
+as_counter_reader _ = None

@@ -1,3 +1,4 @@
+pub mod Counting
 pub mod Handles
 pub mod Held
 pub mod Pairs

@@ -2,8 +2,9 @@
 
 use crate::batches::{Packets, Pool, RxDevice, RxQueue, TxDevice, TxQueue};
 use crate::rings::{RxDriving, RxServing, TxDriving, TxServing};
+use counters::{RegisterReader, RegisterWriter};
 
-/// One end of a ring, step by step or in batches, a worker's packets, or a pool of buffers.
+/// One end of a ring, step by step or in batches, a worker's packets, a pool of buffers, or a side of counters.
 #[derive(Drop)]
 pub enum End {
     /// A receive ring's driver.
@@ -26,4 +27,8 @@ pub enum End {
     Packets(Packets),
     /// A pool of empty buffers.
     Pool(Pool),
+    /// Counters that this thread may write.
+    Counters(RegisterWriter),
+    /// Counters that another thread may write.
+    CounterReader(RegisterReader),
 }

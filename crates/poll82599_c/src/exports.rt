@@ -3,6 +3,7 @@
 
 mod calling;
 mod closing;
+mod counting;
 mod making;
 mod reading;
 mod supplying;

@@ -1,4 +1,5 @@
 //! Counters that others read while workers run.
 
+mod registers;
 mod rows;
 mod threads;

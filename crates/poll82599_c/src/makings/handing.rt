@@ -17,6 +17,7 @@ pub(crate) fn put_one(alloc: Global, made: Result<Box<End>, Unmade>, handle: &mu
     ensures in_use { (result ≡ pos 5) → (handle.old.held ≢ None) × (handle.new.held ≡ handle.old.held) }
     ensures unmade { IfErr made (λ e. (result ≢ pos 0) × (result ≢ pos 5) × (handle.new ≡ handle.old)) }
     ensures buffers { IfErr made (λ e. result ≡ pos 3 → e ≡ Unmade.Buffers) }
+    ensures settings { IfErr made (λ e. result ≡ pos 4 → e ≡ Unmade.Settings) }
 {
     match made {
         Ok(object) => {

@@ -4,7 +4,7 @@ ghost use Rattle.refusals.specs.declared.errors.RingError.TheVariants.{RingLengt
 
 use shared_ring::RingError;
 
-/// The reason why an export made no end, queue, worker's packets or pool.
+/// The reason why an export made no end, queue, worker's packets, pool or counters.
 #[derive(Drop)]
 pub(crate) enum Unmade {
     /// The ring's length is not a power of two from 8 to 4,096.
@@ -13,8 +13,8 @@ pub(crate) enum Unmade {
     Memory,
     /// The number of buffers is out of range.
     Buffers,
-    /// A batch is not 1 to 32 packets, buffers are not filled to 1,024 or 2,048 bytes, or reports are not asked for
-    /// with each 1st to 4,096th frame.
+    /// A batch is not 1 to 32 packets, buffers are not filled to 1,024 or 2,048 bytes, reports are not asked for with
+    /// each 1st to 4,096th frame, or a handle may not write counters.
     Settings,
 }
 

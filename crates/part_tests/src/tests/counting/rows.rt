@@ -4,8 +4,8 @@ ghost use Rattle.counters.specs.Snapshots.{NoneFalls};
 
 use crate::tests::wanted::holds;
 use counters::{
-    ByteCell, Bytes, CounterError, DRIVEN_NUMBERS, Driven, FlowCells, Snapshot, SnapshotCell,
-    SnapshotPass, TALLY_NUMBERS, Tally,
+    ByteCell, Bytes, CounterError, DRIVEN_NUMBERS, Driven, FlowCells, RegisterWriter, Snapshot,
+    SnapshotCell, SnapshotPass, TALLY_NUMBERS, Tally,
 };
 use std::alloc::Global;
 use std::fmt::Debug;
@@ -126,5 +126,13 @@ fn want_of_memory(rt: HostRuntime) {
     }
     if let Err(refused) = ByteCell::new(rt.alloc()) {
         holds(&rt, is_of_memory(refused));
+    }
+    match RegisterWriter::new(rt.alloc(), 2) {
+        Ok(mut writer) => {
+            if let Err(refused) = writer.reader() {
+                holds(&rt, is_of_memory(refused));
+            }
+        }
+        Err(refused) => holds(&rt, is_of_memory(refused)),
     }
 }
