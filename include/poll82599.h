@@ -145,7 +145,7 @@ enum poll82599_rx_driver_operation {
 };
 enum poll82599_rx_controller_operation { POLL82599_RX_ANSWER = 0, POLL82599_RX_STORE = 1, POLL82599_RX_SET_QUIET = 2 };
 
-/* The exported functions. Each takes the number of an operation; below is an inline function for each operation. */
+/* Exported functions. Those called ..._do or ..._move take the number of an operation; below is an inline function for each operation. */
 int32_t poll82599_rx_new(uint32_t descriptors, uint32_t buffers, struct poll82599_rx_driver *driver, struct poll82599_rx_controller *controller);
 void poll82599_rx_drive(struct poll82599_rx_driver *driver, struct poll82599_call *call, uint8_t *bytes, size_t room);
 void poll82599_rx_serve(struct poll82599_rx_controller *controller, struct poll82599_call *call, const uint8_t *segment, size_t len);
@@ -408,7 +408,7 @@ enum {
     POLL82599_MOST_RS_EVERY = 4096 /* frames of which one asks for a report */
 };
 
-/* The operation that a queue or a transmit device makes, its result, and a count of packets, buffers, segments or bytes. */
+/* The operation that a queue makes, its result, and a count of packets, buffers or segments. */
 struct poll82599_batch {
     uint32_t operation;
     uint32_t answer;
@@ -426,17 +426,15 @@ struct poll82599_packet {
     uint8_t byte;  /* and the byte */
 };
 
-/* The operation that a receive device makes, its result, and the counts: each frame in `offered` was stored, dropped or oversize. */
+/* The counts of a receive device: each frame in `offered` was stored, dropped or oversize. */
 struct poll82599_offered {
-    uint32_t operation;
-    uint32_t answer;
     uint64_t offered;
     uint64_t stored;
     uint64_t dropped;
     uint64_t oversize;
 };
 
-/* The operations of poll82599_packets_do, of the ..._move and ..._queue_do calls, and of the ..._device_do calls. */
+/* The operations of poll82599_packets_do, and of the ..._move and ..._queue_do calls. */
 enum poll82599_packets_operation {
     POLL82599_PACKET_COPY = 0,
     POLL82599_PACKET_BYTE = 1,
@@ -462,15 +460,7 @@ enum poll82599_tx_queue_operation {
     POLL82599_TX_QUEUE_RENEW = 3,
     POLL82599_TX_QUEUE_OUTSTANDING = 4
 };
-enum poll82599_rx_device_operation {
-    POLL82599_RX_DEVICE_OFFER = 0,
-    POLL82599_RX_DEVICE_CONTROL = 1,
-    POLL82599_RX_DEVICE_FINISH = 2,
-    POLL82599_RX_DEVICE_COUNTS = 3
-};
-enum poll82599_tx_device_operation { POLL82599_TX_DEVICE_TURN = 0, POLL82599_TX_DEVICE_CONTROL = 1 };
-
-/* The exported functions. Each takes the number of an operation; below is an inline function for each operation. */
+/* Exported functions. Those called ..._do or ..._move take the number of an operation; below is an inline function for each operation. */
 int32_t poll82599_packets_new(uint32_t buffers, struct poll82599_packets *packets);
 uint32_t poll82599_packets_put(struct poll82599_packets *packets, const uint8_t *frame, size_t len);
 uint32_t poll82599_packets_append(struct poll82599_packets *packets, const uint8_t *bytes, size_t len);
@@ -491,12 +481,10 @@ int64_t poll82599_counters_close(struct poll82599_counters *counters);
 int32_t poll82599_rx_queue_new(uint32_t descriptors, size_t batch, size_t fill, uint32_t drop_en, struct poll82599_rx_queue *queue, struct poll82599_rx_device *device);
 void poll82599_rx_queue_move(struct poll82599_rx_queue *queue, struct poll82599_packets *packets, struct poll82599_batch *call);
 void poll82599_rx_queue_do(struct poll82599_rx_queue *queue, struct poll82599_batch *call);
-void poll82599_rx_device_do(struct poll82599_rx_device *device, struct poll82599_offered *call, const uint8_t *frame, size_t len);
 int64_t poll82599_rx_queue_close(struct poll82599_rx_queue *queue, struct poll82599_rx_device *device);
 int32_t poll82599_tx_queue_new(uint32_t descriptors, uint16_t every, uint32_t by_head, struct poll82599_tx_queue *queue, struct poll82599_tx_device *device);
 void poll82599_tx_queue_move(struct poll82599_tx_queue *queue, struct poll82599_packets *packets, struct poll82599_batch *call);
 void poll82599_tx_queue_do(struct poll82599_tx_queue *queue, struct poll82599_batch *call);
-void poll82599_tx_device_do(struct poll82599_tx_device *device, struct poll82599_batch *call, uint8_t *bytes, size_t room);
 int64_t poll82599_tx_queue_close(struct poll82599_tx_queue *queue, struct poll82599_tx_device *device);
 
 /* poll82599_packets_new makes a worker's packets: no packet, and `buffers` empty buffers. Returns 0: done; 2: no memory; 3: `buffers` is
@@ -739,48 +727,37 @@ static inline uint32_t poll82599_tx_queue_renew(struct poll82599_tx_queue *queue
 
 /* ---- The device's thread. */
 
-static inline uint32_t poll82599_rx_device_step(struct poll82599_rx_device *device, uint32_t operation)
-{
-    static const uint8_t none = 0;
-    struct poll82599_offered call = {operation, 0, 0, 0, 0, 0};
-    poll82599_rx_device_do(device, &call, &none, 0);
-    return call.answer;
-}
-
 /* Offers a frame that came in. Returns 1: it is stored, cut into segments of `fill` bytes, and RDH after it; 0: too few descriptors are
  * free, offer it again; 2: its length is not 14 to 15,000; 3: the queue is off, or the device has finished; 4: it needs at least as many
  * descriptors as the ring has (oversize); 5: too few descriptors are free, and it is dropped. Only 1 stores anything. */
-static inline uint32_t poll82599_offer(struct poll82599_rx_device *device, const uint8_t *frame, size_t len)
-{
-    struct poll82599_offered call = {POLL82599_RX_DEVICE_OFFER, 0, 0, 0, 0, 0};
-    poll82599_rx_device_do(device, &call, frame, len);
-    return call.answer;
-}
+uint32_t poll82599_offer(struct poll82599_rx_device *device, const uint8_t *frame, size_t len);
 
 /* Loads the control word, and answers what the driver asks. Returns the control word that it stored, or else the one that it loaded:
  * POLL82599_ON once the queue is on, POLL82599_OFF in a new queue and once a disabling is answered. */
-static inline uint32_t poll82599_rx_device_control(struct poll82599_rx_device *device) { return poll82599_rx_device_step(device, POLL82599_RX_DEVICE_CONTROL); }
+uint32_t poll82599_rx_device_control(struct poll82599_rx_device *device);
 
 /* Says that no more is stored until the queue is enabled again. Returns 1: done; 0: the queue is off, or this was said before. */
-static inline uint32_t poll82599_rx_device_finish(struct poll82599_rx_device *device) { return poll82599_rx_device_step(device, POLL82599_RX_DEVICE_FINISH); }
+uint32_t poll82599_rx_device_finish(struct poll82599_rx_device *device);
 
 /* Counts the frames that were stored, dropped or oversize, and all of them together (`offered`). An offer that returned 0, 2 or 3 counts
- * nowhere. The `answer` of the result is 1. */
+ * nowhere. Returns 1: done. */
+uint32_t poll82599_rx_device_count(struct poll82599_rx_device *device, struct poll82599_offered *counts);
+
+/* Returns those counts; all are 0 for a handle that is empty or of another kind. */
 static inline struct poll82599_offered poll82599_rx_device_counts(struct poll82599_rx_device *device)
 {
-    static const uint8_t none = 0;
-    struct poll82599_offered call = {POLL82599_RX_DEVICE_COUNTS, 0, 0, 0, 0, 0};
-    poll82599_rx_device_do(device, &call, &none, 0);
-    return call;
+    struct poll82599_offered counts = {0, 0, 0, 0};
+    poll82599_rx_device_count(device, &counts);
+    return counts;
 }
 
 /* Writes those counts to counters 0 to 3, in this order: stored, dropped, oversize, offered. So a thread that reads counter 3 first finds
  * at least as many frames in the other three. Returns 1: done. */
 static inline uint32_t poll82599_rx_device_publish(struct poll82599_rx_device *device, struct poll82599_counters *counters)
 {
-    struct poll82599_offered counts = poll82599_rx_device_counts(device);
+    struct poll82599_offered counts = {0, 0, 0, 0};
     uint64_t numbers[4];
-    uint32_t answer = counts.answer;
+    uint32_t answer = poll82599_rx_device_count(device, &counts);
     size_t at;
     numbers[0] = counts.stored;
     numbers[1] = counts.dropped;
@@ -795,22 +772,10 @@ static inline uint32_t poll82599_rx_device_publish(struct poll82599_rx_device *d
  * beginning of `bytes`, its length in `*len`; 0: none is ready; 3: the queue is off; 4: the frame is longer than `room`, its length in
  * `*len`; 5: no memory. Only 1 and 4 send anything. After 4 the frame waits in the device: the next call sends nothing, and hands that
  * frame out if it has room for it. */
-static inline uint32_t poll82599_turn(struct poll82599_tx_device *device, uint8_t *bytes, size_t room, size_t *len)
-{
-    struct poll82599_batch call = {POLL82599_TX_DEVICE_TURN, 0, 0, 0};
-    poll82599_tx_device_do(device, &call, bytes, room);
-    *len = call.count;
-    return call.answer;
-}
+uint32_t poll82599_turn(struct poll82599_tx_device *device, uint8_t *bytes, size_t room, size_t *len);
 
 /* As poll82599_rx_device_control. */
-static inline uint32_t poll82599_tx_device_control(struct poll82599_tx_device *device)
-{
-    uint8_t none = 0;
-    struct poll82599_batch call = {POLL82599_TX_DEVICE_CONTROL, 0, 0, 0};
-    poll82599_tx_device_do(device, &call, &none, 0);
-    return call.answer;
-}
+uint32_t poll82599_tx_device_control(struct poll82599_tx_device *device);
 
 /* ---- Plain data. These calls keep nothing between calls, and any thread may make them. */
 

@@ -149,8 +149,9 @@ void poll82599_rx_queue_move(struct poll82599_rx_queue *queue, struct poll82599_
         atomic_store(&ring->tail, ring->posted);
 }
 
-static uint32_t offer(struct ring *ring, const uint8_t *frame, size_t len)
+uint32_t poll82599_offer(struct poll82599_rx_device *device, const uint8_t *frame, size_t len)
 {
+    struct ring *ring = (struct ring *)device->end;
     uint64_t needed = (len + ring->fill - 1) / ring->fill;
     if (len < POLL82599_LEAST_FRAME || len > POLL82599_MOST_FRAME)
         return 2;
@@ -177,10 +178,9 @@ static uint32_t offer(struct ring *ring, const uint8_t *frame, size_t len)
     return 1;
 }
 
-void poll82599_rx_device_do(struct poll82599_rx_device *device, struct poll82599_offered *call, const uint8_t *frame, size_t len)
+uint32_t poll82599_rx_device_control(struct poll82599_rx_device *device)
 {
-    struct ring *ring = (struct ring *)device->end;
-    call->answer = call->operation == POLL82599_RX_DEVICE_CONTROL ? answer(ring) : offer(ring, frame, len);
+    return answer((struct ring *)device->end);
 }
 
 /* Takes back the buffers of all reports that are made. */
@@ -239,9 +239,11 @@ void poll82599_tx_queue_move(struct poll82599_tx_queue *queue, struct poll82599_
 }
 
 /* Joins the segments of the next frame, which must all be posted, and reports it if it asks for that. The caller has room for every frame. */
-static uint32_t turn(struct ring *ring, uint8_t *bytes, size_t *len)
+uint32_t poll82599_turn(struct poll82599_tx_device *device, uint8_t *bytes, size_t room, size_t *len)
 {
+    struct ring *ring = (struct ring *)device->end;
     uint64_t word, place;
+    (void)room;
     *len = 0;
     if (!ring->is_serving)
         return 3;
@@ -261,9 +263,7 @@ static uint32_t turn(struct ring *ring, uint8_t *bytes, size_t *len)
     return 1;
 }
 
-void poll82599_tx_device_do(struct poll82599_tx_device *device, struct poll82599_batch *call, uint8_t *bytes, size_t room)
+uint32_t poll82599_tx_device_control(struct poll82599_tx_device *device)
 {
-    struct ring *ring = (struct ring *)device->end;
-    (void)room;
-    call->answer = call->operation == POLL82599_TX_DEVICE_CONTROL ? answer(ring) : turn(ring, bytes, &call->count);
+    return answer((struct ring *)device->end);
 }

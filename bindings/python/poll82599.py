@@ -50,7 +50,7 @@ class _Packet(Structure):
 
 
 class _Offered(Structure):
-    _fields_ = [("operation", c_uint32), ("answer", c_uint32)] + [(name, c_uint64) for name in ("offered", "stored", "dropped", "oversize")]
+    _fields_ = [(name, c_uint64) for name in ("offered", "stored", "dropped", "oversize")]
 
 
 class _Descriptor(Structure):
@@ -99,12 +99,16 @@ def _loaded():
         "rx_queue_new": (c_int32, c_uint32, size, size, c_uint32, handle, handle),
         "rx_queue_move": (None, handle, handle, POINTER(_Batch)),
         "rx_queue_do": (None, handle, POINTER(_Batch)),
-        "rx_device_do": (None, handle, POINTER(_Offered), read, size),
+        "offer": (c_uint32, handle, read, size),
+        "rx_device_control": (c_uint32, handle),
+        "rx_device_finish": (c_uint32, handle),
+        "rx_device_count": (c_uint32, handle, POINTER(_Offered)),
         "rx_queue_close": (c_int64, handle, handle),
         "tx_queue_new": (c_int32, c_uint32, c_uint16, c_uint32, handle, handle),
         "tx_queue_move": (None, handle, handle, POINTER(_Batch)),
         "tx_queue_do": (None, handle, POINTER(_Batch)),
-        "tx_device_do": (None, handle, POINTER(_Batch), write, size),
+        "turn": (c_uint32, handle, write, size, POINTER(size)),
+        "tx_device_control": (c_uint32, handle),
         "tx_queue_close": (c_int64, handle, handle),
         "decode": (c_uint32, c_uint32, read, size, POINTER(_Descriptor)),
         "encode": (c_uint32, c_uint32, POINTER(_Descriptor), write, size),
@@ -482,25 +486,21 @@ class RxDevice:
     def offer(self, frame):
         """Offers a frame: "stored", "held", "dropped" or "oversize"."""
         frame = bytes(frame)
-        answer = self._call(0, frame).answer
+        answer = _calls["offer"](byref(self._pair.device), frame, len(frame))
         answers = {0: "held", 1: "stored", 4: "oversize", 5: "dropped"}
         return answers[answer] if answer in answers else _done(answer, _2="unfit", _3="not on")
 
     def control(self):
         """Loads the control word, answers what the driver asks, and returns the word that it stored, or else loaded."""
-        return self._call(1).answer
+        return _calls["rx_device_control"](byref(self._pair.device))
 
     def finish(self):
-        return _done(self._call(2).answer)
+        return _done(_calls["rx_device_finish"](byref(self._pair.device)))
 
     def counts(self):
-        call = self._call(3)
-        return {name: getattr(call, name) for name in ("offered", "stored", "dropped", "oversize")}
-
-    def _call(self, operation, frame=b""):
-        call = _Offered(operation=operation)
-        _calls["rx_device_do"](byref(self._pair.device), byref(call), frame, len(frame))
-        return call
+        counts = _Offered()
+        _calls["rx_device_count"](byref(self._pair.device), byref(counts))
+        return {name: getattr(counts, name) for name in ("offered", "stored", "dropped", "oversize")}
 
 
 class TxDevice:
@@ -509,17 +509,12 @@ class TxDevice:
 
     def turn(self):
         """Sends the next frame and returns its bytes, or None if none is ready."""
-        room = _room(MOST_FRAME)
-        call = self._call(0, room)
-        return bytes(room[: call.count]) if _done(call.answer, _3="not on", _5="memory") else None
+        room, count = _room(MOST_FRAME), c_size_t()
+        answer = _calls["turn"](byref(self._pair.device), room, len(room), byref(count))
+        return bytes(room[: count.value]) if _done(answer, _3="not on", _5="memory") else None
 
     def control(self):
-        return self._call(1, _room(0)).answer
-
-    def _call(self, operation, room):
-        call = _Batch(operation=operation)
-        _calls["tx_device_do"](byref(self._pair.device), byref(call), room, len(room))
-        return call
+        return _calls["tx_device_control"](byref(self._pair.device))
 
 
 def RxRing(descriptors, buffers=256):

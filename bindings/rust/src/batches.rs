@@ -482,7 +482,8 @@ impl RxDevice {
     ///
     /// Returns `Unfit` for another length, and `NotOn` if the queue is off or the device has finished.
     pub fn offer(&mut self, frame: &[u8]) -> Result<Offer, Refusal> {
-        match self.call(0, frame).answer {
+        // SAFETY: the handle is full, only this side uses it, and the frame has its length.
+        match unsafe { ffi::poll82599_offer(self.ends.device(), frame.as_ptr(), frame.len()) } {
             1 => Ok(Offer::Stored),
             0 => Ok(Offer::Held),
             2 => Err(Refusal::Unfit),
@@ -495,25 +496,23 @@ impl RxDevice {
 
     /// Loads the control word, and answers what the driver asks. Returns the word that it stored, or else loaded.
     pub fn control(&mut self) -> State {
-        State::of(self.call(1, &[]).answer)
+        // SAFETY: the handle is full, and only this side uses it.
+        State::of(unsafe { ffi::poll82599_rx_device_control(self.ends.device()) })
     }
 
     /// Says that no more is stored until the queue is enabled again. Returns false if the queue is off, or this was said before.
     pub fn finish(&mut self) -> bool {
-        is_done(self.call(2, &[]).answer)
+        // SAFETY: as for `control`.
+        is_done(unsafe { ffi::poll82599_rx_device_finish(self.ends.device()) })
     }
 
     /// The outcomes of the frames offered so far. A frame that was held, or refused, counts nowhere.
     pub fn counts(&mut self) -> Counts {
-        let Offered { offered, stored, dropped, oversize, .. } = self.call(3, &[]);
+        let mut counts = Offered::default();
+        // SAFETY: as for `control`.
+        unsafe { ffi::poll82599_rx_device_count(self.ends.device(), &mut counts) };
+        let Offered { offered, stored, dropped, oversize } = counts;
         Counts { offered, stored, dropped, oversize }
-    }
-
-    fn call(&mut self, operation: u32, frame: &[u8]) -> Offered {
-        let mut call = Offered { operation, ..Offered::default() };
-        // SAFETY: the handle is full, only this side uses it, and the frame has its length.
-        unsafe { ffi::poll82599_rx_device_do(self.ends.device(), &mut call, frame.as_ptr(), frame.len()) };
-        call
     }
 }
 
@@ -524,8 +523,9 @@ impl TxDevice {
     /// Returns `NotOn` if the queue is off, and `Memory`; the frame is not sent then. Returns `NoRoom` if the frame is longer than
     /// `room`; then it was sent and waits, and the next call with room for it hands it out.
     pub fn turn<'a>(&mut self, room: &'a mut [u8]) -> Result<Option<&'a [u8]>, Refusal> {
-        let (answer, len) = self.call(0, room);
-        match answer {
+        let mut len = 0;
+        // SAFETY: the handle is full, only this side uses it, and the room has its length.
+        match unsafe { ffi::poll82599_turn(self.ends.device(), room.as_mut_ptr(), room.len(), &mut len) } {
             1 => Ok(Some(&room[..len])),
             0 => Ok(None),
             3 => Err(Refusal::NotOn),
@@ -537,14 +537,7 @@ impl TxDevice {
 
     /// Loads the control word, and answers what the driver asks. Returns the word that it stored, or else loaded.
     pub fn control(&mut self) -> State {
-        State::of(self.call(1, &mut []).0)
-    }
-
-    fn call(&mut self, operation: u32, room: &mut [u8]) -> (u32, usize) {
-        let mut call = Batch { operation, ..Batch::default() };
-        // SAFETY: the handle is full, only this side uses it, and the room has its length.
-        unsafe { ffi::poll82599_tx_device_do(self.ends.device(), &mut call, room.as_mut_ptr(), room.len()) };
-        debug_assert_ne!(call.answer, NO_END);
-        (call.answer, call.count)
+        // SAFETY: the handle is full, and only this side uses it.
+        State::of(unsafe { ffi::poll82599_tx_device_control(self.ends.device()) })
     }
 }

@@ -56,8 +56,6 @@ pub struct Packet {
 #[repr(C)]
 #[derive(Default)]
 pub struct Offered {
-    pub operation: u32,
-    pub answer: u32,
     pub offered: u64,
     pub stored: u64,
     pub dropped: u64,
@@ -132,12 +130,16 @@ unsafe extern "C" {
     ) -> i32;
     pub fn poll82599_rx_queue_move(queue: *mut Handle, packets: *mut Handle, call: *mut Batch);
     pub fn poll82599_rx_queue_do(queue: *mut Handle, call: *mut Batch);
-    pub fn poll82599_rx_device_do(device: *mut Handle, call: *mut Offered, frame: *const u8, len: usize);
+    pub fn poll82599_offer(device: *mut Handle, frame: *const u8, len: usize) -> u32;
+    pub fn poll82599_rx_device_control(device: *mut Handle) -> u32;
+    pub fn poll82599_rx_device_finish(device: *mut Handle) -> u32;
+    pub fn poll82599_rx_device_count(device: *mut Handle, counts: *mut Offered) -> u32;
     pub fn poll82599_rx_queue_close(queue: *mut Handle, device: *mut Handle) -> i64;
     pub fn poll82599_tx_queue_new(descriptors: u32, every: u16, by_head: u32, queue: *mut Handle, device: *mut Handle) -> i32;
     pub fn poll82599_tx_queue_move(queue: *mut Handle, packets: *mut Handle, call: *mut Batch);
     pub fn poll82599_tx_queue_do(queue: *mut Handle, call: *mut Batch);
-    pub fn poll82599_tx_device_do(device: *mut Handle, call: *mut Batch, bytes: *mut u8, room: usize);
+    pub fn poll82599_turn(device: *mut Handle, bytes: *mut u8, room: usize, len: *mut usize) -> u32;
+    pub fn poll82599_tx_device_control(device: *mut Handle) -> u32;
     pub fn poll82599_tx_queue_close(queue: *mut Handle, device: *mut Handle) -> i64;
     pub fn poll82599_decode(form: u32, bytes: *const u8, len: usize, said: *mut Descriptor) -> u32;
     pub fn poll82599_encode(form: u32, said: *const Descriptor, bytes: *mut u8, len: usize) -> u32;

@@ -38,12 +38,10 @@ pub struct Poll82599Packet {
     pub byte: u8,
 }
 
-/// A step of a receive queue's device, its result, and the device's frame counters.
+/// The frame counts of a receive queue's device.
 #[repr(C)]
 #[derive(Clone, Copy)]
-pub struct Poll82599Device {
-    pub operation: u32,
-    pub answer: u32,
+pub struct Poll82599Counts {
     pub offered: u64,
     pub stored: u64,
     pub dropped: u64,

@@ -5,5 +5,6 @@ mod calling;
 mod closing;
 mod counting;
 mod making;
+mod playing;
 mod reading;
 mod supplying;

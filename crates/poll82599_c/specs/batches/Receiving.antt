@@ -131,10 +131,6 @@ pub record TriedQuiet (did : Bool) (old new : Receiving) : Type 0 where
   pub finished : Finished old.end did new.end
   pub same : new ≡ record old { end = new.end }
 
--- the step of an operation, by its number, with this result
-abbrev pub Played : ℕ → ℕ → Bytes → Receiving → Receiving → Type 0
-Played zero answer frame old new = TriedOffer answer frame old new
-Played (suc zero) answer frame old new = Turned answer old new
-Played (suc (suc zero)) answer frame old new = (answer ≡ 1 → TriedQuiet true old new) × (answer ≢ 1 → TriedQuiet false old new)
-Played (suc (suc (suc zero))) answer frame old new = (answer ≡ 1) × (new ≡ old)
-Played _ answer frame old new = answer ≡ 4294967295
+-- 1: the device said so now; or it did not
+abbrev pub TriedFinish : ℕ → Receiving → Receiving → Type 0
+TriedFinish answer old new = (answer ≡ 1 → TriedQuiet true old new) × (answer ≢ 1 → TriedQuiet false old new)

@@ -186,9 +186,3 @@ pub record Turned (value : ℕ) (old new : SendingDevice) : Type 0 where
   pub value_is : value ≡ control_word told
   pub turned : TurnedControl old.end told new.end
   pub waiting : new.waiting ≡ old.waiting
-
--- the step of an operation, by its number, with this result
-abbrev pub Played : ℕ → ℕ → ℕ → Bytes → Bytes → SendingDevice → SendingDevice → Type 0
-Played zero answer count before after old new = TriedTurn answer count before after old new
-Played (suc zero) answer count before after old new = Turned answer old new
-Played _ answer count before after old new = answer ≡ 4294967295

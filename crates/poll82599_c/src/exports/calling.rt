@@ -1,11 +1,11 @@
-//! The exports that step an end, a queue, a device or a worker's packets.
+//! The exports that step an end, a queue or a worker's packets.
 //!
 //! Each but `poll82599_packets_put`, `poll82599_packets_append` and `poll82599_packet_move` takes an operation's number
 //! in the call record and puts its result there. 1 means done; the other results are listed. `0xFFFF_FFFF` means an
 //! unknown operation, or a handle that is empty or of another kind; nothing changes. A handle is in one call at a time.
 ghost use Rattle.std.specs.Prelude.{◌≡◌, ◌≢◌, ◌<◌, ◌⊎◌, None};
 ghost use Rattle.ffi_handle.specs.Words.{is_set};
-ghost use Rattle.poll82599_c.specs.Handles.{as_packets, as_rx_controller, as_rx_device, as_rx_driver, as_rx_queue, as_sender, as_tx_controller, as_tx_device, as_tx_driver, as_tx_queue};
+ghost use Rattle.poll82599_c.specs.Handles.{as_packets, as_rx_controller, as_rx_driver, as_rx_queue, as_tx_controller, as_tx_driver, as_tx_queue};
 ghost use Rattle.poll82599_c.specs.Held.{Among, Between};
 ghost use Rattle.poll82599_c.specs.batches.Packets.{Handled, MovedBuffers, TriedAppend, TriedMove, TriedPut};
 ghost use Rattle.poll82599_c.specs.batches.Queues.{SameQueue};
@@ -18,7 +18,7 @@ ghost use Rattle.poll82599_c.specs.rings.Steps.{SameDriven, SameServed};
 ghost use Rattle.poll82599_c.specs.rings.TxEnds as tx;
 
 use crate::batches::{BatchQueue, Found};
-use crate::call::{NO_OPERATION, Poll82599Call, Poll82599Device, Poll82599Packet, Poll82599Queue};
+use crate::call::{NO_OPERATION, Poll82599Call, Poll82599Packet, Poll82599Queue};
 use crate::end::End;
 use crate::handle::{Handle, take_both};
 use crate::rings::Asking;
@@ -368,85 +368,6 @@ pub extern "C" fn poll82599_tx_queue_do(
         _ => NO_OPERATION,
     };
     queue.put(end);
-}
-
-/// Steps a receive queue's device. The device's thread calls it. The operations:
-/// - 0 offers a frame. 0: it is held, offer it again; 2: no frame has this length; 3: the queue is off or quiet; 4: it
-///   is oversize; 5: it is dropped.
-/// - 1 loads the control word and answers a request if it can. Returns the word, 0 to 3.
-/// - 2 says that no more is stored. 0: the queue is off, or this was said before.
-/// - 3 reads the frame counters.
-#[unsafe(no_mangle)]
-pub extern "C" fn poll82599_rx_device_do(
-    alloc: Global,
-    device: &mut Handle,
-    call: &mut Poll82599Device,
-    frame: &[u8],
-)
-    ensures other { as_rx_device device.old.held ≡ None → (call.new.answer ≡ 4294967295) × (device.new.held ≡ device.old.held) }
-    ensures own { rx_queue.SameDevice (as_rx_device device.old.held) (as_rx_device device.new.held) }
-    ensures step { Between (rx_queue.Played call.old.operation call.new.answer frame.now) (as_rx_device device.old.held) (as_rx_device device.new.held) }
-    ensures told { (call.old.operation ≡ 3) → rx_queue.AreCounts call.new.offered call.new.stored call.new.dropped call.new.oversize (as_rx_device device.old.held) }
-    ensures kept { (2 < call.old.operation) → device.new.held ≡ device.old.held }
-{
-    let Some(mut end) = device.take(alloc) else {
-        call.answer = NO_OPERATION;
-        return;
-    };
-    call.answer = match &mut *end {
-        End::RxDevice(serving) => match call.operation {
-            0 => serving.offer(frame),
-            1 => serving.turn_control(),
-            2 => serving.finish(),
-            3 => {
-                let tally = serving.tally();
-                call.offered = tally.offered;
-                call.stored = tally.stored;
-                call.dropped = tally.dropped;
-                call.oversize = tally.oversize;
-                1
-            }
-            _ => NO_OPERATION,
-        },
-        _ => NO_OPERATION,
-    };
-    device.put(end);
-}
-
-/// Steps a transmit queue's device. The device's thread calls it. The operations:
-/// - 0 sends the next frame into `room`, with its length in `count`. 0: none is ready; 3: the queue is off; 4: it was
-///   sent, and waits because it is longer than `room`: then the next call hands it out; 5: memory was refused.
-/// - 1 loads the control word and answers a request if it can. Returns the word, 0 to 3.
-#[unsafe(no_mangle)]
-pub extern "C" fn poll82599_tx_device_do(
-    alloc: Global,
-    device: &mut Handle,
-    call: &mut Poll82599Queue,
-    room: &mut [u8],
-)
-    ensures other { as_tx_device device.old.held ≡ None → (call.new.answer ≡ 4294967295) × (device.new.held ≡ device.old.held) × (room.new ≡ room.old) }
-    ensures own { tx_queue.SameDevice (as_tx_device device.old.held) (as_tx_device device.new.held) }
-    ensures step { Between (tx_queue.Played call.old.operation call.new.answer call.new.count room.old room.new) (as_sender device.old.held) (as_sender device.new.held) }
-    ensures room { (call.old.operation ≢ 0) → room.new ≡ room.old }
-    ensures kept { (1 < call.old.operation) → device.new.held ≡ device.old.held }
-{
-    let Some(mut end) = device.take(alloc) else {
-        call.answer = NO_OPERATION;
-        return;
-    };
-    call.answer = match &mut *end {
-        End::TxDevice(serving) => match call.operation {
-            0 => {
-                let found = serving.turn(room);
-                call.count = found.count;
-                found.answer
-            }
-            1 => serving.turn_control(),
-            _ => NO_OPERATION,
-        },
-        _ => NO_OPERATION,
-    };
-    device.put(end);
 }
 
 /// Makes a packet of a frame and appends it. The worker's thread calls it. Returns 1: done; 0: there are 32 packets, or
