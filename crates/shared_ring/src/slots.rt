@@ -7,6 +7,7 @@ ghost use Rattle.shared_ring.specs.Slots.{front_buffer};
 use atomic_table::{Seat, Table, TableRule};
 use buffer_pool::Buf;
 use std::alloc::Global;
+use std::mem;
 
 /// Puts a buffer into the empty slot that the seat took last.
 #[inline]
@@ -21,7 +22,8 @@ pub fn put_in<V, K, R: TableRule<Buf, V, K>>(
     ensures same { (seat.new.table_id ≡ seat.old.table_id) × (seat.new.id ≡ seat.old.id) }
     ensures put { seat.new.me ≡ (seat.old.me.0, (place, buf) ∷ rest seat.old.me.1) }
 {
-    table.shared.exchange(seat, place, buf);
+    // The slot has a blank, which owns no memory, so it need not be dropped.
+    mem::forget(table.shared.exchange(seat, place, buf));
 }
 
 /// Takes the buffer out of the slot that the seat took last.
