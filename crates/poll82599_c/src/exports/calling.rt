@@ -50,36 +50,28 @@ pub extern "C" fn poll82599_rx_drive(
     ensures room { (call.old.operation ≢ 2) → bytes.new ≡ bytes.old }
     ensures kept { (9 < call.old.operation) → driver.new.held ≡ driver.old.held }
 {
-    let Some(mut held) = driver.take(alloc) else {
-        call.answer = NO_OPERATION;
-        return;
-    };
-    call.answer = match &mut *held {
-        End::RxDriver(receiving) => match call.operation {
-            0 => receiving.post(),
-            1 => receiving.publish(),
-            2 => {
-                let found = receiving.poll(bytes);
-                call.len = found.len;
-                call.eop = found.eop;
-                found.answer
-            }
-            3 => receiving.control_step(HandshakeStep::AskEnable),
-            4 => receiving.control_step(HandshakeStep::LoadControl),
-            5 => receiving.control_step(HandshakeStep::AskDisable),
-            6 => receiving.is_quiet(),
-            7 => receiving.reclaim(),
-            8 => receiving.renew(),
-            9 => {
-                let found = receiving.left();
-                call.len = found.len;
-                found.answer
-            }
-            _ => NO_OPERATION,
-        },
+    step_call!(alloc, driver, call, RxDriver(receiving) => match call.operation {
+        0 => receiving.post(),
+        1 => receiving.publish(),
+        2 => {
+            let found = receiving.poll(bytes);
+            call.len = found.len;
+            call.eop = found.eop;
+            found.answer
+        }
+        3 => receiving.control_step(HandshakeStep::AskEnable),
+        4 => receiving.control_step(HandshakeStep::LoadControl),
+        5 => receiving.control_step(HandshakeStep::AskDisable),
+        6 => receiving.is_quiet(),
+        7 => receiving.reclaim(),
+        8 => receiving.renew(),
+        9 => {
+            let found = receiving.left();
+            call.len = found.len;
+            found.answer
+        }
         _ => NO_OPERATION,
-    };
-    driver.put(held);
+    });
 }
 
 /// Steps a transmit ring's driver. The driver's thread calls it. The operations:
@@ -102,38 +94,30 @@ pub extern "C" fn poll82599_tx_drive(
     ensures step { Between (tx.Drove call.old.operation call.new.answer call.new.len segment.now (is_set call.old.eop) (is_set call.old.rs) call.old.paylen) (as_tx_driver driver.old.held) (as_tx_driver driver.new.held) }
     ensures kept { (9 < call.old.operation) → driver.new.held ≡ driver.old.held }
 {
-    let Some(mut held) = driver.take(alloc) else {
-        call.answer = NO_OPERATION;
-        return;
-    };
-    call.answer = match &mut *held {
-        End::TxDriver(sending) => match call.operation {
-            0 => {
-                let ask = Asking {
-                    eop: is_set(call.eop),
-                    rs: is_set(call.rs),
-                    paylen: call.paylen,
-                };
-                sending.post(segment, &ask)
-            }
-            1 => sending.publish(),
-            2 => sending.poll_report(),
-            3 => sending.control_step(HandshakeStep::AskEnable),
-            4 => sending.control_step(HandshakeStep::LoadControl),
-            5 => sending.control_step(HandshakeStep::AskDisable),
-            6 => sending.clean(),
-            7 => sending.reclaim(),
-            8 => sending.renew(),
-            9 => {
-                let found = sending.left();
-                call.len = found.len;
-                found.answer
-            }
-            _ => NO_OPERATION,
-        },
+    step_call!(alloc, driver, call, TxDriver(sending) => match call.operation {
+        0 => {
+            let ask = Asking {
+                eop: is_set(call.eop),
+                rs: is_set(call.rs),
+                paylen: call.paylen,
+            };
+            sending.post(segment, &ask)
+        }
+        1 => sending.publish(),
+        2 => sending.poll_report(),
+        3 => sending.control_step(HandshakeStep::AskEnable),
+        4 => sending.control_step(HandshakeStep::LoadControl),
+        5 => sending.control_step(HandshakeStep::AskDisable),
+        6 => sending.clean(),
+        7 => sending.reclaim(),
+        8 => sending.renew(),
+        9 => {
+            let found = sending.left();
+            call.len = found.len;
+            found.answer
+        }
         _ => NO_OPERATION,
-    };
-    driver.put(held);
+    });
 }
 
 /// Steps a receive ring's controller. The controller's thread calls it. The operations:
@@ -153,20 +137,12 @@ pub extern "C" fn poll82599_rx_serve(
     ensures step { Between (rx.Served call.old.operation call.new.answer segment.now (is_set call.old.eop)) (as_rx_controller controller.old.held) (as_rx_controller controller.new.held) }
     ensures kept { (2 < call.old.operation) → controller.new.held ≡ controller.old.held }
 {
-    let Some(mut held) = controller.take(alloc) else {
-        call.answer = NO_OPERATION;
-        return;
-    };
-    call.answer = match &mut *held {
-        End::RxController(serving) => match call.operation {
-            0 => serving.answer(),
-            1 => serving.store(segment, is_set(call.eop)),
-            2 => serving.set_quiet(),
-            _ => NO_OPERATION,
-        },
+    step_call!(alloc, controller, call, RxController(serving) => match call.operation {
+        0 => serving.answer(),
+        1 => serving.store(segment, is_set(call.eop)),
+        2 => serving.set_quiet(),
         _ => NO_OPERATION,
-    };
-    controller.put(held);
+    });
 }
 
 /// Steps a transmit ring's controller. The controller's thread calls it. The operations:
@@ -186,24 +162,16 @@ pub extern "C" fn poll82599_tx_serve(
     ensures room { (call.old.operation ≢ 1) → bytes.new ≡ bytes.old }
     ensures kept { (1 < call.old.operation) → controller.new.held ≡ controller.old.held }
 {
-    let Some(mut held) = controller.take(alloc) else {
-        call.answer = NO_OPERATION;
-        return;
-    };
-    call.answer = match &mut *held {
-        End::TxController(serving) => match call.operation {
-            0 => serving.answer(),
-            1 => {
-                let found = serving.send(bytes);
-                call.len = found.len;
-                call.eop = found.eop;
-                found.answer
-            }
-            _ => NO_OPERATION,
-        },
+    step_call!(alloc, controller, call, TxController(serving) => match call.operation {
+        0 => serving.answer(),
+        1 => {
+            let found = serving.send(bytes);
+            call.len = found.len;
+            call.eop = found.eop;
+            found.answer
+        }
         _ => NO_OPERATION,
-    };
-    controller.put(held);
+    });
 }
 
 /// Moves buffers between a receive queue and a worker, counts in `count`, and in `buffers` the empty buffers that were
@@ -223,27 +191,19 @@ pub extern "C" fn poll82599_rx_queue_move(
     ensures buffers { Among (λ _ had _ has. MovedBuffers call.new.buffers had has) (as_rx_queue queue.old.held) (as_packets packets.old.held) (as_rx_queue queue.new.held) (as_packets packets.new.held) }
     ensures kept { (1 < call.old.operation) → (queue.new.held ≡ queue.old.held) × (packets.new.held ≡ packets.old.held) }
 {
-    let Some((mut end, mut worker)) = take_both(alloc, queue, packets) else {
-        call.answer = NO_OPERATION;
-        return;
-    };
-    let found = match (&mut *end, &mut *worker) {
-        (End::RxQueue(receiving), End::Packets(held)) => {
-            let had = held.stash.len();
-            let found = match call.operation {
-                0 => receiving.batch(held),
-                1 => receiving.reclaim(held),
-                _ => Found::nothing(NO_OPERATION),
-            };
-            call.buffers = held.moved_since(had);
-            found
-        }
-        _ => Found::nothing(NO_OPERATION),
-    };
+    let none = Found::nothing(NO_OPERATION);
+    let found = step_both!(alloc, queue, packets, none, RxQueue(receiving), Packets(held) => {
+        let had = held.stash.len();
+        let found = match call.operation {
+            0 => receiving.batch(held),
+            1 => receiving.reclaim(held),
+            _ => Found::nothing(NO_OPERATION),
+        };
+        call.buffers = held.moved_since(had);
+        found
+    });
     call.answer = found.answer;
     call.count = found.count;
-    queue.put(end);
-    packets.put(worker);
 }
 
 /// Moves buffers between a worker and a transmit queue, counts in `count`, and in `buffers` the empty buffers that came
@@ -265,28 +225,20 @@ pub extern "C" fn poll82599_tx_queue_move(
     ensures buffers { Among (λ _ had _ has. MovedBuffers call.new.buffers had has) (as_tx_queue queue.old.held) (as_packets packets.old.held) (as_tx_queue queue.new.held) (as_packets packets.new.held) }
     ensures kept { (2 < call.old.operation) → (queue.new.held ≡ queue.old.held) × (packets.new.held ≡ packets.old.held) }
 {
-    let Some((mut end, mut worker)) = take_both(alloc, queue, packets) else {
-        call.answer = NO_OPERATION;
-        return;
-    };
-    let found = match (&mut *end, &mut *worker) {
-        (End::TxQueue(sending), End::Packets(held)) => {
-            let had = held.stash.len();
-            let found = match call.operation {
-                0 => sending.batch(held),
-                1 => sending.clean(held),
-                2 => sending.reclaim(held),
-                _ => Found::nothing(NO_OPERATION),
-            };
-            call.buffers = held.moved_since(had);
-            found
-        }
-        _ => Found::nothing(NO_OPERATION),
-    };
+    let none = Found::nothing(NO_OPERATION);
+    let found = step_both!(alloc, queue, packets, none, TxQueue(sending), Packets(held) => {
+        let had = held.stash.len();
+        let found = match call.operation {
+            0 => sending.batch(held),
+            1 => sending.clean(held),
+            2 => sending.reclaim(held),
+            _ => Found::nothing(NO_OPERATION),
+        };
+        call.buffers = held.moved_since(had);
+        found
+    });
     call.answer = found.answer;
     call.count = found.count;
-    queue.put(end);
-    packets.put(worker);
 }
 
 /// Steps a receive queue's driver. The driver's thread calls it. The operations:
@@ -308,26 +260,18 @@ pub extern "C" fn poll82599_rx_queue_do(
     ensures step { Between (rx_queue.Did call.old.operation call.new.answer call.new.count) (as_rx_queue queue.old.held) (as_rx_queue queue.new.held) }
     ensures kept { (4 < call.old.operation) → queue.new.held ≡ queue.old.held }
 {
-    let Some(mut end) = queue.take(alloc) else {
-        call.answer = NO_OPERATION;
-        return;
-    };
-    call.answer = match &mut *end {
-        End::RxQueue(receiving) => match call.operation {
-            0 => receiving.enable(),
-            1 => receiving.ask_disable(),
-            2 => {
-                let found = receiving.finish_disable();
-                call.count = found.count;
-                found.answer
-            }
-            3 => receiving.renew(),
-            4 => receiving.is_quiet(),
-            _ => NO_OPERATION,
-        },
+    step_call!(alloc, queue, call, RxQueue(receiving) => match call.operation {
+        0 => receiving.enable(),
+        1 => receiving.ask_disable(),
+        2 => {
+            let found = receiving.finish_disable();
+            call.count = found.count;
+            found.answer
+        }
+        3 => receiving.renew(),
+        4 => receiving.is_quiet(),
         _ => NO_OPERATION,
-    };
-    queue.put(end);
+    });
 }
 
 /// Steps a transmit queue's driver. The driver's thread calls it. The operations are 0 to 3 of
@@ -344,30 +288,22 @@ pub extern "C" fn poll82599_tx_queue_do(
     ensures step { Between (tx_queue.Did call.old.operation call.new.answer call.new.count) (as_tx_queue queue.old.held) (as_tx_queue queue.new.held) }
     ensures kept { (3 < call.old.operation) → queue.new.held ≡ queue.old.held }
 {
-    let Some(mut end) = queue.take(alloc) else {
-        call.answer = NO_OPERATION;
-        return;
-    };
-    call.answer = match &mut *end {
-        End::TxQueue(sending) => match call.operation {
-            0 => sending.enable(),
-            1 => sending.ask_disable(),
-            2 => {
-                let found = sending.finish_disable();
-                call.count = found.count;
-                found.answer
-            }
-            3 => sending.renew(),
-            4 => {
-                let found = sending.outstanding();
-                call.count = found.count;
-                found.answer
-            }
-            _ => NO_OPERATION,
-        },
+    step_call!(alloc, queue, call, TxQueue(sending) => match call.operation {
+        0 => sending.enable(),
+        1 => sending.ask_disable(),
+        2 => {
+            let found = sending.finish_disable();
+            call.count = found.count;
+            found.answer
+        }
+        3 => sending.renew(),
+        4 => {
+            let found = sending.outstanding();
+            call.count = found.count;
+            found.answer
+        }
         _ => NO_OPERATION,
-    };
-    queue.put(end);
+    });
 }
 
 /// Makes a packet of a frame and appends it. The worker's thread calls it. Returns 1: done; 0: there are 32 packets, or
@@ -377,15 +313,7 @@ pub extern "C" fn poll82599_packets_put(alloc: Global, packets: &mut Handle, fra
     ensures other { as_packets packets.old.held ≡ None → (result ≡ 4294967295) × (packets.new.held ≡ packets.old.held) }
     ensures step { Between (TriedPut result frame.now) (as_packets packets.old.held) (as_packets packets.new.held) }
 {
-    let Some(mut end) = packets.take(alloc) else {
-        return NO_OPERATION;
-    };
-    let answer = match &mut *end {
-        End::Packets(held) => held.put(frame),
-        _ => NO_OPERATION,
-    };
-    packets.put(end);
-    answer
+    step!(alloc, packets, Packets(held) => held.put(frame))
 }
 
 /// Appends a segment of 1 to 2,048 bytes to the last packet. The worker's thread calls it. Returns 1: done; 0: there is
@@ -395,17 +323,7 @@ pub extern "C" fn poll82599_packets_append(alloc: Global, packets: &mut Handle, 
     ensures other { as_packets packets.old.held ≡ None → (result ≡ 4294967295) × (packets.new.held ≡ packets.old.held) }
     ensures step { Between (TriedAppend result bytes.now) (as_packets packets.old.held) (as_packets packets.new.held) }
 {
-    match packets.take(alloc) {
-        None => NO_OPERATION,
-        Some(mut end) => {
-            let answer = match &mut *end {
-                End::Packets(held) => held.append(bytes),
-                _ => NO_OPERATION,
-            };
-            packets.put(end);
-            answer
-        }
-    }
+    step!(alloc, packets, Packets(held) => held.append(bytes))
 }
 
 /// Moves a packet, with its buffers, to the end of another worker's packets. The thread of both workers calls it.
@@ -420,18 +338,9 @@ pub extern "C" fn poll82599_packet_move(
     ensures other { (as_packets packets.old.held ≡ None) ⊎ (as_packets other.old.held ≡ None) → (result ≡ 4294967295) × (packets.new.held ≡ packets.old.held) × (other.new.held ≡ other.old.held) }
     ensures step { Among (TriedMove result packet) (as_packets packets.old.held) (as_packets other.old.held) (as_packets packets.new.held) (as_packets other.new.held) }
 {
-    match take_both(alloc, packets, other) {
-        None => NO_OPERATION,
-        Some((mut end, mut other_end)) => {
-            let answer = match (&mut *end, &mut *other_end) {
-                (End::Packets(held), End::Packets(receiving)) => held.move_to(packet, receiving),
-                _ => NO_OPERATION,
-            };
-            packets.put(end);
-            other.put(other_end);
-            answer
-        }
-    }
+    step_both!(alloc, packets, other, NO_OPERATION, Packets(held), Packets(receiving) => {
+        held.move_to(packet, receiving)
+    })
 }
 
 /// Handles one of a worker's packets. The worker's thread calls it. With 0 to 3 and 5 the result is 0 if there is no such
@@ -453,38 +362,30 @@ pub extern "C" fn poll82599_packets_do(
     ensures step { Between (Handled call.old.operation call.old call.new room.old room.new) (as_packets packets.old.held) (as_packets packets.new.held) }
     ensures kept { (call.new.answer ≢ 1) → packets.new.held ≡ packets.old.held }
 {
-    let Some(mut end) = packets.take(alloc) else {
-        call.answer = NO_OPERATION;
-        return;
-    };
-    call.answer = match &mut *end {
-        End::Packets(held) => match call.operation {
-            0 => {
-                let found = held.copy(call.packet, room);
-                call.len = found.count;
-                found.answer
-            }
-            1 => {
-                let (answer, byte) = held.byte(call.packet, call.at);
-                call.byte = byte;
-                answer
-            }
-            2 => held.touch(call.packet, call.at, call.byte),
-            3 => held.release(call.packet),
-            4 => {
-                call.packet = held.list.len();
-                call.len = held.stash.len();
-                1
-            }
-            5 => {
-                let (found, segments) = held.measure(call.packet);
-                call.len = found.count;
-                call.at = segments;
-                found.answer
-            }
-            _ => NO_OPERATION,
-        },
+    step_call!(alloc, packets, call, Packets(held) => match call.operation {
+        0 => {
+            let found = held.copy(call.packet, room);
+            call.len = found.count;
+            found.answer
+        }
+        1 => {
+            let (answer, byte) = held.byte(call.packet, call.at);
+            call.byte = byte;
+            answer
+        }
+        2 => held.touch(call.packet, call.at, call.byte),
+        3 => held.release(call.packet),
+        4 => {
+            call.packet = held.list.len();
+            call.len = held.stash.len();
+            1
+        }
+        5 => {
+            let (found, segments) = held.measure(call.packet);
+            call.len = found.count;
+            call.at = segments;
+            found.answer
+        }
         _ => NO_OPERATION,
-    };
-    packets.put(end);
+    });
 }

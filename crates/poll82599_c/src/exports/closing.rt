@@ -24,6 +24,27 @@ use rx_ring::{RxControllerEnd, RxDriverEnd, RxRing, meet_rx};
 use std::alloc::Global;
 use tx_ring::{TxControllerEnd, TxDriverEnd, TxRing, meet_tx};
 
+/// Closes the two objects that a pair of handles holds. The value is that of the closing, or the refusal of `take_pair`.
+macro_rules! close {
+    (
+        $alloc:ident, $one:ident, $other:ident, $pair:ident,
+        $kind:ident($driving:ident), $with:ident($serving:ident) => $closing:expr
+    ) => {
+        match take_pair($alloc, $one, $other, HandlePair::$pair) {
+            Err(unheld) => unheld,
+            Ok((one, other)) => {
+                let End::$kind($driving) = one else {
+                    unreachable!()
+                };
+                let End::$with($serving) = other else {
+                    unreachable!()
+                };
+                $closing
+            }
+        }
+    };
+}
+
 /// Closes a receive ring by its two ends. Returns how many buffers it held, or -1 if the ring has another owner; both
 /// handles are then empty. Returns -2 if a handle is empty or of another kind, and leaves both.
 #[unsafe(no_mangle)]
@@ -38,17 +59,9 @@ pub extern "C" fn poll82599_rx_close(
     ensures other { (as_rx_driver driver.old.held ≡ None) ⊎ (as_rx_controller controller.old.held ≡ None) → (result ≡ negsuc 1) × (driver.new.held ≡ driver.old.held) × (controller.new.held ≡ controller.old.held) }
     ensures closed { AreClosed (as_rx_driver driver.old.held) (as_rx_controller controller.old.held) result driver.new.held controller.new.held }
 {
-    let (one, other) = match take_pair(alloc, driver, controller, HandlePair::RxRing) {
-        Ok(taken) => taken,
-        Err(unheld) => return unheld,
-    };
-    let End::RxDriver(driving) = one else {
-        unreachable!()
-    };
-    let End::RxController(serving) = other else {
-        unreachable!()
-    };
-    rx_closed(driving, serving)
+    close!(alloc, driver, controller, RxRing, RxDriver(driving), RxController(serving) => {
+        rx_closed(driving, serving)
+    })
 }
 
 /// Closes a transmit ring by its two ends. Returns how many buffers it held, or -1 if the ring has another owner;
@@ -65,17 +78,9 @@ pub extern "C" fn poll82599_tx_close(
     ensures other { (as_tx_driver driver.old.held ≡ None) ⊎ (as_tx_controller controller.old.held ≡ None) → (result ≡ negsuc 1) × (driver.new.held ≡ driver.old.held) × (controller.new.held ≡ controller.old.held) }
     ensures closed { AreClosed (as_tx_driver driver.old.held) (as_tx_controller controller.old.held) result driver.new.held controller.new.held }
 {
-    let (one, other) = match take_pair(alloc, driver, controller, HandlePair::TxRing) {
-        Ok(taken) => taken,
-        Err(unheld) => return unheld,
-    };
-    let End::TxDriver(driving) = one else {
-        unreachable!()
-    };
-    let End::TxController(serving) = other else {
-        unreachable!()
-    };
-    tx_closed(driving, serving)
+    close!(alloc, driver, controller, TxRing, TxDriver(driving), TxController(serving) => {
+        tx_closed(driving, serving)
+    })
 }
 
 /// Closes a receive queue by its driver and its device. Returns how many buffers its ring held, or -1 if the ring has
@@ -92,17 +97,9 @@ pub extern "C" fn poll82599_rx_queue_close(
     ensures other { (as_rx_queue queue.old.held ≡ None) ⊎ (as_rx_device device.old.held ≡ None) → (result ≡ negsuc 1) × (queue.new.held ≡ queue.old.held) × (device.new.held ≡ device.old.held) }
     ensures closed { AreClosed (as_rx_queue queue.old.held) (as_rx_device device.old.held) result queue.new.held device.new.held }
 {
-    let (one, other) = match take_pair(alloc, queue, device, HandlePair::RxQueue) {
-        Ok(taken) => taken,
-        Err(unheld) => return unheld,
-    };
-    let End::RxQueue(driving) = one else {
-        unreachable!()
-    };
-    let End::RxDevice(serving) = other else {
-        unreachable!()
-    };
-    rx_queue_closed(driving, serving)
+    close!(alloc, queue, device, RxQueue, RxQueue(driving), RxDevice(serving) => {
+        rx_queue_closed(driving, serving)
+    })
 }
 
 /// Closes a transmit queue by its driver and its device. Returns how many buffers its ring held, or -1 if the ring
@@ -119,17 +116,9 @@ pub extern "C" fn poll82599_tx_queue_close(
     ensures other { (as_tx_queue queue.old.held ≡ None) ⊎ (as_tx_device device.old.held ≡ None) → (result ≡ negsuc 1) × (queue.new.held ≡ queue.old.held) × (device.new.held ≡ device.old.held) }
     ensures closed { AreClosed (as_tx_queue queue.old.held) (as_tx_device device.old.held) result queue.new.held device.new.held }
 {
-    let (one, other) = match take_pair(alloc, queue, device, HandlePair::TxQueue) {
-        Ok(taken) => taken,
-        Err(unheld) => return unheld,
-    };
-    let End::TxQueue(driving) = one else {
-        unreachable!()
-    };
-    let End::TxDevice(serving) = other else {
-        unreachable!()
-    };
-    tx_queue_closed(driving, serving)
+    close!(alloc, queue, device, TxQueue, TxQueue(driving), TxDevice(serving) => {
+        tx_queue_closed(driving, serving)
+    })
 }
 
 /// Frees a worker's packets and empty buffers. Returns how many packets there were, or `usize::MAX` if the handle is

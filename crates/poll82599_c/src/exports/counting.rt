@@ -57,15 +57,7 @@ pub extern "C" fn poll82599_counters_set(
     ensures other { as_counters counters.old.held ≡ None → (result ≡ 4294967295) × (counters.new.held ≡ counters.old.held) }
     ensures step { Between (TriedSet result at number) (as_counters counters.old.held) (as_counters counters.new.held) }
 {
-    let Some(mut end) = counters.take(alloc) else {
-        return NO_OPERATION;
-    };
-    let answer = match &mut *end {
-        End::Counters(held) => { if held.set(at, number) { 1 } else { 0 } }
-        _ => NO_OPERATION,
-    };
-    counters.put(end);
-    answer
+    step!(alloc, counters, Counters(held) => u32::from(held.set(at, number)))
 }
 
 /// Reads counter `at` into `number`. The reader's thread calls it. Returns 1: done; 0: `at` is not below 8.
@@ -80,21 +72,13 @@ pub extern "C" fn poll82599_counters_get(
     ensures step { Between (TriedGet result at number.new) (as_counter_reader reader.old.held) (as_counter_reader reader.new.held) }
     ensures kept { (result ≢ 1) → number.new ≡ number.old }
 {
-    let Some(mut end) = reader.take(alloc) else {
-        return NO_OPERATION;
-    };
-    let answer = match &mut *end {
-        End::CounterReader(held) => match held.get(at) {
-            Some(found) => {
-                *number = found;
-                1
-            }
-            None => 0,
-        },
-        _ => NO_OPERATION,
-    };
-    reader.put(end);
-    answer
+    step!(alloc, reader, CounterReader(held) => match held.get(at) {
+        Some(found) => {
+            *number = found;
+            1
+        }
+        None => 0,
+    })
 }
 
 /// Closes the handle that may write counters, or a reader of them. The set is freed with its last handle. Returns 0, or -2

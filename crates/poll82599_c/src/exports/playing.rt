@@ -18,15 +18,7 @@ pub extern "C" fn poll82599_offer(alloc: Global, device: &mut Handle, frame: &[u
     ensures own { rx_queue.SameDevice (as_rx_device device.old.held) (as_rx_device device.new.held) }
     ensures step { Between (rx_queue.TriedOffer result frame.now) (as_rx_device device.old.held) (as_rx_device device.new.held) }
 {
-    let Some(mut end) = device.take(alloc) else {
-        return NO_OPERATION;
-    };
-    let answer = match &mut *end {
-        End::RxDevice(serving) => serving.offer(frame),
-        _ => NO_OPERATION,
-    };
-    device.put(end);
-    answer
+    step!(alloc, device, RxDevice(serving) => serving.offer(frame))
 }
 
 /// Loads a receive queue's control word and answers a request if it can. Returns the word, 0 to 3.
@@ -36,15 +28,7 @@ pub extern "C" fn poll82599_rx_device_control(alloc: Global, device: &mut Handle
     ensures own { rx_queue.SameDevice (as_rx_device device.old.held) (as_rx_device device.new.held) }
     ensures step { Between (rx_queue.Turned result) (as_rx_device device.old.held) (as_rx_device device.new.held) }
 {
-    let Some(mut end) = device.take(alloc) else {
-        return NO_OPERATION;
-    };
-    let answer = match &mut *end {
-        End::RxDevice(serving) => serving.turn_control(),
-        _ => NO_OPERATION,
-    };
-    device.put(end);
-    answer
+    step!(alloc, device, RxDevice(serving) => serving.turn_control())
 }
 
 /// Says that no more is stored in a receive queue. Returns 1: done; 0: the queue is off, or this was said before.
@@ -54,15 +38,7 @@ pub extern "C" fn poll82599_rx_device_finish(alloc: Global, device: &mut Handle)
     ensures own { rx_queue.SameDevice (as_rx_device device.old.held) (as_rx_device device.new.held) }
     ensures step { Between (rx_queue.TriedFinish result) (as_rx_device device.old.held) (as_rx_device device.new.held) }
 {
-    let Some(mut end) = device.take(alloc) else {
-        return NO_OPERATION;
-    };
-    let answer = match &mut *end {
-        End::RxDevice(serving) => serving.finish(),
-        _ => NO_OPERATION,
-    };
-    device.put(end);
-    answer
+    step!(alloc, device, RxDevice(serving) => serving.finish())
 }
 
 /// Reads a receive queue's frame counts. Returns 1.
@@ -111,19 +87,11 @@ pub extern "C" fn poll82599_turn(
     ensures own { tx_queue.SameDevice (as_tx_device device.old.held) (as_tx_device device.new.held) }
     ensures step { Between (tx_queue.TriedTurn result len.new room.old room.new) (as_sender device.old.held) (as_sender device.new.held) }
 {
-    let Some(mut end) = device.take(alloc) else {
-        return NO_OPERATION;
-    };
-    let answer = match &mut *end {
-        End::TxDevice(serving) => {
-            let found = serving.turn(room);
-            *len = found.count;
-            found.answer
-        }
-        _ => NO_OPERATION,
-    };
-    device.put(end);
-    answer
+    step!(alloc, device, TxDevice(serving) => {
+        let found = serving.turn(room);
+        *len = found.count;
+        found.answer
+    })
 }
 
 /// Loads a transmit queue's control word and answers a request if it can. Returns the word, 0 to 3.
@@ -133,13 +101,5 @@ pub extern "C" fn poll82599_tx_device_control(alloc: Global, device: &mut Handle
     ensures own { tx_queue.SameDevice (as_tx_device device.old.held) (as_tx_device device.new.held) }
     ensures step { Between (tx_queue.Turned result) (as_sender device.old.held) (as_sender device.new.held) }
 {
-    let Some(mut end) = device.take(alloc) else {
-        return NO_OPERATION;
-    };
-    let answer = match &mut *end {
-        End::TxDevice(serving) => serving.turn_control(),
-        _ => NO_OPERATION,
-    };
-    device.put(end);
-    answer
+    step!(alloc, device, TxDevice(serving) => serving.turn_control())
 }

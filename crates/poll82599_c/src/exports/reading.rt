@@ -22,15 +22,7 @@ pub extern "C" fn poll82599_packet_read(
     ensures other { as_packets packets.old.held ≡ None → (result ≡ 4294967295) × (packets.new.held ≡ packets.old.held) × (room.new ≡ room.old) }
     ensures step { Between (TriedReadRange result packet at room.old room.new) (as_packets packets.old.held) (as_packets packets.new.held) }
 {
-    let Some(mut end) = packets.take(alloc) else {
-        return NO_OPERATION;
-    };
-    let answer = match &mut *end {
-        End::Packets(held) => held.read(packet, at, room),
-        _ => NO_OPERATION,
-    };
-    packets.put(end);
-    answer
+    step!(alloc, packets, Packets(held) => held.read(packet, at, room))
 }
 
 /// Replaces the bytes of a packet from `at` on, in place. The worker's thread calls it. Returns 1: done; 0: there is no
@@ -46,13 +38,5 @@ pub extern "C" fn poll82599_packet_write(
     ensures other { as_packets packets.old.held ≡ None → (result ≡ 4294967295) × (packets.new.held ≡ packets.old.held) }
     ensures step { Between (TriedWriteRange result packet at bytes.now) (as_packets packets.old.held) (as_packets packets.new.held) }
 {
-    let Some(mut end) = packets.take(alloc) else {
-        return NO_OPERATION;
-    };
-    let answer = match &mut *end {
-        End::Packets(held) => held.write(packet, at, bytes),
-        _ => NO_OPERATION,
-    };
-    packets.put(end);
-    answer
+    step!(alloc, packets, Packets(held) => held.write(packet, at, bytes))
 }

@@ -27,22 +27,16 @@ pub extern "C" fn poll82599_pool_move(
     ensures step { Among (Supplied call.old.operation call.new.answer call.old.count call.new.count) (as_packets packets.old.held) (as_pool pool.old.held) (as_packets packets.new.held) (as_pool pool.new.held) }
     ensures kept { (1 < call.old.operation) → (packets.new.held ≡ packets.old.held) × (pool.new.held ≡ pool.old.held) }
 {
-    let Some((mut worker, mut end)) = take_both(alloc, packets, pool) else {
-        call.answer = NO_OPERATION;
-        return;
-    };
-    let found = match (&mut *worker, &mut *end) {
-        (End::Packets(held), End::Pool(shared)) => match call.operation {
+    let none = Found::nothing(NO_OPERATION);
+    let found = step_both!(alloc, packets, pool, none, Packets(held), Pool(shared) => {
+        match call.operation {
             0 => held.refill(shared),
             1 => held.give_back(shared, call.count),
-            _ => Found::nothing(NO_OPERATION),
-        },
-        _ => Found::nothing(NO_OPERATION),
-    };
+            _ => none,
+        }
+    });
     call.answer = found.answer;
     call.count = found.count;
-    packets.put(worker);
-    pool.put(end);
 }
 
 /// Counts the buffers in a pool. Returns `usize::MAX` if the handle is empty or of another kind.
