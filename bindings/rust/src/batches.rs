@@ -1,6 +1,6 @@
 //! Queues in batches, as an ixgbe driver uses them, and devices that take and send whole frames.
 
-use crate::ffi::{self, Batch, Ends, Handle, NO_END, Offered, Packet};
+use crate::ffi::{self, Batch, Ends, Handle, Offered, Packet};
 use crate::results::{MakeError, Refusal, State, is_done, unanswered};
 use crate::rings::Completion;
 use std::cell::UnsafeCell;

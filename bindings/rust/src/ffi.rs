@@ -4,9 +4,6 @@ use std::cell::UnsafeCell;
 use std::ptr::null_mut;
 use std::sync::Arc;
 
-/// What a call returns for a handle that is empty or of another kind, and for an unknown operation.
-pub const NO_END: u32 = u32::MAX;
-
 /// A handle. It stays where it was made, and one call at a time uses it.
 #[repr(C)]
 pub struct Handle(*mut u8);
