@@ -145,7 +145,7 @@ enum poll82599_rx_driver_operation {
 };
 enum poll82599_rx_controller_operation { POLL82599_RX_ANSWER = 0, POLL82599_RX_STORE = 1, POLL82599_RX_SET_QUIET = 2 };
 
-/* Exported functions. Those called ..._do or ..._move take the number of an operation; below is an inline function for each operation. */
+/* The exported functions. Each but ..._new and ..._close takes the number of an operation; below is an inline function for each operation. */
 int32_t poll82599_rx_new(uint32_t descriptors, uint32_t buffers, struct poll82599_rx_driver *driver, struct poll82599_rx_controller *controller);
 void poll82599_rx_drive(struct poll82599_rx_driver *driver, struct poll82599_call *call, uint8_t *bytes, size_t room);
 void poll82599_rx_serve(struct poll82599_rx_controller *controller, struct poll82599_call *call, const uint8_t *segment, size_t len);
@@ -408,22 +408,11 @@ enum {
     POLL82599_MOST_RS_EVERY = 4096 /* frames of which one asks for a report */
 };
 
-/* The operation that a queue makes, its result, and a count of packets, buffers or segments. */
+/* The operation that a queue or a pool makes, its result, and a count of buffers or segments. */
 struct poll82599_batch {
     uint32_t operation;
     uint32_t answer;
-    size_t count;   /* to poll82599_pool_move: how many buffers to return */
-    size_t buffers; /* of ..._queue_move: how many empty buffers the worker gave to the ring, or got back from it */
-};
-
-/* The operation on one of a worker's packets. */
-struct poll82599_packet {
-    uint32_t operation;
-    uint32_t answer;
-    size_t packet; /* its place, from 0 */
-    size_t len;    /* of the packet, in bytes */
-    size_t at;     /* the place of a byte in it, from 0, or how many buffers it has; */
-    uint8_t byte;  /* and the byte */
+    size_t count; /* to poll82599_pool_move: how many buffers to return */
 };
 
 /* The counts of a receive device: each frame in `offered` was stored, dropped or oversize. */
@@ -434,18 +423,8 @@ struct poll82599_offered {
     uint64_t oversize;
 };
 
-/* The operations of poll82599_packets_do, and of the ..._move and ..._queue_do calls. */
-enum poll82599_packets_operation {
-    POLL82599_PACKET_COPY = 0,
-    POLL82599_PACKET_BYTE = 1,
-    POLL82599_PACKET_TOUCH = 2,
-    POLL82599_PACKET_FREE = 3,
-    POLL82599_PACKETS_COUNT = 4,
-    POLL82599_PACKET_LENGTH = 5
-};
+/* The operations of poll82599_pool_move and of the ..._queue_do calls. */
 enum poll82599_pool_operation { POLL82599_POOL_REFILL = 0, POLL82599_POOL_RETURN = 1 };
-enum poll82599_rx_queue_move_operation { POLL82599_RX_QUEUE_BATCH = 0, POLL82599_RX_QUEUE_RECLAIM = 1 };
-enum poll82599_tx_queue_move_operation { POLL82599_TX_QUEUE_BATCH = 0, POLL82599_TX_QUEUE_CLEAN = 1, POLL82599_TX_QUEUE_RECLAIM = 2 };
 enum poll82599_rx_queue_operation {
     POLL82599_RX_QUEUE_ENABLE = 0,
     POLL82599_RX_QUEUE_DISABLE = 1,
@@ -460,14 +439,18 @@ enum poll82599_tx_queue_operation {
     POLL82599_TX_QUEUE_RENEW = 3,
     POLL82599_TX_QUEUE_OUTSTANDING = 4
 };
-/* Exported functions. Those called ..._do or ..._move take the number of an operation; below is an inline function for each operation. */
+
+/* Exported functions; more are declared below. poll82599_pool_move and those called ..._do take the number of an operation, for which
+ * there is an inline function below. To those called ..._measure and ..._queue_batch no pointer is null; below is an inline function for
+ * each to which it may be. */
 int32_t poll82599_packets_new(uint32_t buffers, struct poll82599_packets *packets);
 uint32_t poll82599_packets_put(struct poll82599_packets *packets, const uint8_t *frame, size_t len);
 uint32_t poll82599_packets_append(struct poll82599_packets *packets, const uint8_t *bytes, size_t len);
 uint32_t poll82599_packet_move(struct poll82599_packets *packets, size_t packet, struct poll82599_packets *other);
 uint32_t poll82599_packet_read(struct poll82599_packets *packets, size_t packet, size_t at, uint8_t *bytes, size_t len);
 uint32_t poll82599_packet_write(struct poll82599_packets *packets, size_t packet, size_t at, const uint8_t *bytes, size_t len);
-void poll82599_packets_do(struct poll82599_packets *packets, struct poll82599_packet *call, uint8_t *bytes, size_t room);
+uint32_t poll82599_packet_measure(struct poll82599_packets *packets, size_t packet, size_t *len, size_t *segments);
+uint32_t poll82599_packets_measure(struct poll82599_packets *packets, size_t *count, size_t *empty);
 size_t poll82599_packets_close(struct poll82599_packets *packets);
 int32_t poll82599_pool_new(uint32_t buffers, struct poll82599_pool *pool);
 void poll82599_pool_move(struct poll82599_packets *packets, struct poll82599_pool *pool, struct poll82599_batch *call);
@@ -479,11 +462,11 @@ uint32_t poll82599_counters_set(struct poll82599_counters *counters, size_t at, 
 uint32_t poll82599_counters_get(struct poll82599_counters *reader, size_t at, uint64_t *number);
 int64_t poll82599_counters_close(struct poll82599_counters *counters);
 int32_t poll82599_rx_queue_new(uint32_t descriptors, size_t batch, size_t fill, uint32_t drop_en, struct poll82599_rx_queue *queue, struct poll82599_rx_device *device);
-void poll82599_rx_queue_move(struct poll82599_rx_queue *queue, struct poll82599_packets *packets, struct poll82599_batch *call);
+uint32_t poll82599_rx_queue_batch(struct poll82599_rx_queue *queue, struct poll82599_packets *packets, size_t *count, size_t *posted);
 void poll82599_rx_queue_do(struct poll82599_rx_queue *queue, struct poll82599_batch *call);
 int64_t poll82599_rx_queue_close(struct poll82599_rx_queue *queue, struct poll82599_rx_device *device);
 int32_t poll82599_tx_queue_new(uint32_t descriptors, uint16_t every, uint32_t by_head, struct poll82599_tx_queue *queue, struct poll82599_tx_device *device);
-void poll82599_tx_queue_move(struct poll82599_tx_queue *queue, struct poll82599_packets *packets, struct poll82599_batch *call);
+uint32_t poll82599_tx_queue_batch(struct poll82599_tx_queue *queue, struct poll82599_packets *packets, size_t *count, size_t *cleaned);
 void poll82599_tx_queue_do(struct poll82599_tx_queue *queue, struct poll82599_batch *call);
 int64_t poll82599_tx_queue_close(struct poll82599_tx_queue *queue, struct poll82599_tx_device *device);
 
@@ -523,67 +506,33 @@ int64_t poll82599_tx_queue_close(struct poll82599_tx_queue *queue, struct poll82
  * those of `bytes`, in place. The range may span several buffers. A call costs a pass over the packet's buffers, so read a header as a
  * whole. Returns 1: done; 0: there is no such packet, or it has fewer than `at + len` bytes. */
 
-static inline uint32_t poll82599_packets_step(struct poll82599_packets *packets, struct poll82599_packet *call)
-{
-    uint8_t none = 0;
-    poll82599_packets_do(packets, call, &none, 0);
-    return call->answer;
-}
-
 /* Copies a packet to the beginning of `bytes`. Returns 1: done; 0: there is no such packet; 4: `room` is too small. With 1 and 4, `*len`
  * is the packet's length. */
-static inline uint32_t poll82599_packet_copy(struct poll82599_packets *packets, size_t packet, uint8_t *bytes, size_t room, size_t *len)
-{
-    struct poll82599_packet call = {POLL82599_PACKET_COPY, 0, packet, 0, 0, 0};
-    poll82599_packets_do(packets, &call, bytes, room);
-    *len = call.len;
-    return call.answer;
-}
+uint32_t poll82599_packet_copy(struct poll82599_packets *packets, size_t packet, uint8_t *bytes, size_t room, size_t *len);
 
 /* Puts into `*len` how many bytes a packet has, and into `*segments`, unless `segments` is null, how many buffers. Returns 1: done; 0:
  * there is no such packet. */
 static inline uint32_t poll82599_packet_length(struct poll82599_packets *packets, size_t packet, size_t *len, size_t *segments)
 {
-    struct poll82599_packet call = {POLL82599_PACKET_LENGTH, 0, packet, 0, 0, 0};
-    uint32_t answer = poll82599_packets_step(packets, &call);
-    *len = call.len;
-    if (segments)
-        *segments = call.at;
-    return answer;
+    size_t unused;
+    return poll82599_packet_measure(packets, packet, len, segments ? segments : &unused);
 }
 
 /* Reads a byte of a packet. Returns 1: done; 0: there is no such packet or byte. */
-static inline uint32_t poll82599_packet_byte(struct poll82599_packets *packets, size_t packet, size_t at, uint8_t *byte)
-{
-    struct poll82599_packet call = {POLL82599_PACKET_BYTE, 0, packet, 0, at, 0};
-    uint32_t answer = poll82599_packets_step(packets, &call);
-    *byte = call.byte;
-    return answer;
-}
+uint32_t poll82599_packet_byte(struct poll82599_packets *packets, size_t packet, size_t at, uint8_t *byte);
 
 /* Replaces a byte of a packet in place. Returns 1: done; 0: there is no such packet or byte. */
-static inline uint32_t poll82599_packet_touch(struct poll82599_packets *packets, size_t packet, size_t at, uint8_t byte)
-{
-    struct poll82599_packet call = {POLL82599_PACKET_TOUCH, 0, packet, 0, at, byte};
-    return poll82599_packets_step(packets, &call);
-}
+uint32_t poll82599_packet_touch(struct poll82599_packets *packets, size_t packet, size_t at, uint8_t byte);
 
 /* Frees a packet: its buffers are empty ones of the worker again, and the packets behind it move up. Returns 1: done; 0: there is no such
  * packet; 2: the worker would have more than 256 empty buffers. */
-static inline uint32_t poll82599_packet_free(struct poll82599_packets *packets, size_t packet)
-{
-    struct poll82599_packet call = {POLL82599_PACKET_FREE, 0, packet, 0, 0, 0};
-    return poll82599_packets_step(packets, &call);
-}
+uint32_t poll82599_packet_free(struct poll82599_packets *packets, size_t packet);
 
 /* Returns how many packets the worker has, and puts into `*empty`, unless `empty` is null, how many empty buffers. */
 static inline size_t poll82599_packets_count(struct poll82599_packets *packets, size_t *empty)
 {
-    struct poll82599_packet call = {POLL82599_PACKETS_COUNT, 0, 0, 0, 0, 0};
-    uint32_t answer = poll82599_packets_step(packets, &call);
-    if (empty)
-        *empty = call.len;
-    return answer == POLL82599_DONE ? call.packet : SIZE_MAX;
+    size_t count, unused;
+    return poll82599_packets_measure(packets, &count, empty ? empty : &unused) == POLL82599_DONE ? count : SIZE_MAX;
 }
 
 /* ---- A pool of buffers.
@@ -593,7 +542,7 @@ static inline size_t poll82599_packets_count(struct poll82599_packets *packets, 
 
 static inline uint32_t poll82599_pool_step(struct poll82599_packets *packets, struct poll82599_pool *pool, uint32_t operation, size_t wanted, size_t *count)
 {
-    struct poll82599_batch call = {operation, 0, wanted, 0};
+    struct poll82599_batch call = {operation, 0, wanted};
     poll82599_pool_move(packets, pool, &call);
     if (count)
         *count = call.count;
@@ -621,7 +570,7 @@ static inline uint32_t poll82599_packets_return(struct poll82599_packets *packet
 
 static inline uint32_t poll82599_rx_queue_step(struct poll82599_rx_queue *queue, uint32_t operation, size_t *count)
 {
-    struct poll82599_batch call = {operation, 0, 0, 0};
+    struct poll82599_batch call = {operation, 0, 0};
     poll82599_rx_queue_do(queue, &call);
     if (count)
         *count = call.count;
@@ -634,12 +583,8 @@ static inline uint32_t poll82599_rx_queue_step(struct poll82599_rx_queue *queue,
  * buffers were posted, for which a device may wait; both may be 0; 0: the queue was not seen on, or was seen off. `posted` may be null. */
 static inline uint32_t poll82599_rx_batch(struct poll82599_rx_queue *queue, struct poll82599_packets *packets, size_t *count, size_t *posted)
 {
-    struct poll82599_batch call = {POLL82599_RX_QUEUE_BATCH, 0, 0, 0};
-    poll82599_rx_queue_move(queue, packets, &call);
-    *count = call.count;
-    if (posted)
-        *posted = call.buffers;
-    return call.answer;
+    size_t unused;
+    return poll82599_rx_queue_batch(queue, packets, count, posted ? posted : &unused);
 }
 
 /* Refills the worker from the pool, and then does poll82599_rx_batch. The results are those of poll82599_rx_batch. A loop until
@@ -662,15 +607,9 @@ static inline uint32_t poll82599_rx_queue_disable(struct poll82599_rx_queue *que
  * returned before. `left` may be null. */
 static inline uint32_t poll82599_rx_queue_finish(struct poll82599_rx_queue *queue, size_t *left) { return poll82599_rx_queue_step(queue, POLL82599_RX_QUEUE_FINISH, left); }
 
-/* Takes the buffers of a disabled queue back as empty ones of the worker. Returns 1: `*count` buffers, which are all; 0: the worker has
- * room for 256, and some are left; 2: no disabling was seen answered. */
-static inline uint32_t poll82599_rx_queue_reclaim(struct poll82599_rx_queue *queue, struct poll82599_packets *packets, size_t *count)
-{
-    struct poll82599_batch call = {POLL82599_RX_QUEUE_RECLAIM, 0, 0, 0};
-    poll82599_rx_queue_move(queue, packets, &call);
-    *count = call.count;
-    return call.answer;
-}
+/* Takes the buffers of a disabled queue back as empty ones of the worker, `*count` of them. Returns 1: these are all; 0: some are left,
+ * because the worker has 256; 2: no disabling was seen answered. */
+uint32_t poll82599_rx_queue_reclaim(struct poll82599_rx_queue *queue, struct poll82599_packets *packets, size_t *count);
 
 /* Clears the registers of a disabled queue from which all buffers are back. The queue is then as new. Returns 1: done; 0: no disabling was
  * seen answered, or a buffer is still in the ring. */
@@ -681,18 +620,10 @@ static inline uint32_t poll82599_rx_queue_is_quiet(struct poll82599_rx_queue *qu
 
 static inline uint32_t poll82599_tx_queue_step(struct poll82599_tx_queue *queue, uint32_t operation, size_t *count)
 {
-    struct poll82599_batch call = {operation, 0, 0, 0};
+    struct poll82599_batch call = {operation, 0, 0};
     poll82599_tx_queue_do(queue, &call);
     if (count)
         *count = call.count;
-    return call.answer;
-}
-
-static inline uint32_t poll82599_tx_queue_with(struct poll82599_tx_queue *queue, struct poll82599_packets *packets, uint32_t operation, size_t *count)
-{
-    struct poll82599_batch call = {operation, 0, 0, 0};
-    poll82599_tx_queue_move(queue, packets, &call);
-    *count = call.count;
     return call.answer;
 }
 
@@ -703,16 +634,12 @@ static inline uint32_t poll82599_tx_queue_with(struct poll82599_tx_queue *queue,
  * `cleaned` may be null. */
 static inline uint32_t poll82599_tx_batch(struct poll82599_tx_queue *queue, struct poll82599_packets *packets, size_t *count, size_t *cleaned)
 {
-    struct poll82599_batch call = {POLL82599_TX_QUEUE_BATCH, 0, 0, 0};
-    poll82599_tx_queue_move(queue, packets, &call);
-    *count = call.count;
-    if (cleaned)
-        *cleaned = call.buffers;
-    return call.answer;
+    size_t unused;
+    return poll82599_tx_queue_batch(queue, packets, count, cleaned ? cleaned : &unused);
 }
 
 /* Takes back the buffers of reported frames as empty ones of the worker. Returns 1: done, `*count` buffers; 0: as above. */
-static inline uint32_t poll82599_tx_queue_clean(struct poll82599_tx_queue *queue, struct poll82599_packets *packets, size_t *count) { return poll82599_tx_queue_with(queue, packets, POLL82599_TX_QUEUE_CLEAN, count); }
+uint32_t poll82599_tx_queue_clean(struct poll82599_tx_queue *queue, struct poll82599_packets *packets, size_t *count);
 
 /* Puts into `*count` how many segments were posted whose buffers have not come back. If there is none, all that was posted was sent, or was
  * reclaimed. Returns 1. */
@@ -722,7 +649,7 @@ static inline uint32_t poll82599_tx_queue_outstanding(struct poll82599_tx_queue 
 static inline uint32_t poll82599_tx_queue_enable(struct poll82599_tx_queue *queue) { return poll82599_tx_queue_step(queue, POLL82599_TX_QUEUE_ENABLE, 0); }
 static inline uint32_t poll82599_tx_queue_disable(struct poll82599_tx_queue *queue) { return poll82599_tx_queue_step(queue, POLL82599_TX_QUEUE_DISABLE, 0); }
 static inline uint32_t poll82599_tx_queue_finish(struct poll82599_tx_queue *queue, size_t *left) { return poll82599_tx_queue_step(queue, POLL82599_TX_QUEUE_FINISH, left); }
-static inline uint32_t poll82599_tx_queue_reclaim(struct poll82599_tx_queue *queue, struct poll82599_packets *packets, size_t *count) { return poll82599_tx_queue_with(queue, packets, POLL82599_TX_QUEUE_RECLAIM, count); }
+uint32_t poll82599_tx_queue_reclaim(struct poll82599_tx_queue *queue, struct poll82599_packets *packets, size_t *count);
 static inline uint32_t poll82599_tx_queue_renew(struct poll82599_tx_queue *queue) { return poll82599_tx_queue_step(queue, POLL82599_TX_QUEUE_RENEW, 0); }
 
 /* ---- The device's thread. */

@@ -119,16 +119,15 @@ static uint32_t answer(struct ring *ring)
 }
 
 /* Takes the packets that are complete, and posts a buffer for each segment at once, as the library does. */
-void poll82599_rx_queue_move(struct poll82599_rx_queue *queue, struct poll82599_packets *packets, struct poll82599_batch *call)
+uint32_t poll82599_rx_queue_batch(struct poll82599_rx_queue *queue, struct poll82599_packets *packets, size_t *count, size_t *posted)
 {
     struct ring *ring = (struct ring *)queue->end;
     struct worker *worker = (struct worker *)packets->end;
-    uint64_t posted = ring->posted;
-    call->answer = ring->is_on;
-    call->count = 0;
+    uint64_t before = ring->posted;
+    *count = 0;
     if (!ring->is_on)
-        return;
-    while (call->count < ring->batch && worker->count < POLL82599_MOST_BATCH && ring->back < ring->posted) {
+        return 0;
+    while (*count < ring->batch && worker->count < POLL82599_MOST_BATCH && ring->back < ring->posted) {
         struct packet *packet = &worker->packets[worker->count];
         uint64_t place = ring->back & ring->last, word = atomic_load(&ring->words[place]);
         if (!(word & DD))
@@ -139,14 +138,15 @@ void poll82599_rx_queue_move(struct poll82599_rx_queue *queue, struct poll82599_
             post(ring, worker->empty[--worker->empties], 0);
         if (word & EOP) {
             worker->packets[++worker->count].count = 0;
-            call->count++;
+            ++*count;
         }
     }
     while (room(ring) && worker->empties)
         post(ring, worker->empty[--worker->empties], 0);
-    call->buffers = ring->posted - posted;
-    if (call->buffers)
+    *posted = ring->posted - before;
+    if (*posted)
         atomic_store(&ring->tail, ring->posted);
+    return 1;
 }
 
 uint32_t poll82599_offer(struct poll82599_rx_device *device, const uint8_t *frame, size_t len)
@@ -217,25 +217,27 @@ static void post_packet(struct ring *ring, const struct packet *packet, int is_l
     }
 }
 
-void poll82599_tx_queue_move(struct poll82599_tx_queue *queue, struct poll82599_packets *packets, struct poll82599_batch *call)
+uint32_t poll82599_tx_queue_batch(struct poll82599_tx_queue *queue, struct poll82599_packets *packets, size_t *count, size_t *cleaned)
 {
     struct ring *ring = (struct ring *)queue->end;
     struct worker *worker = (struct worker *)packets->end;
+    size_t fit = 0;
     uint64_t left;
-    call->answer = ring->is_on;
-    call->count = 0;
+    *count = 0;
     if (!ring->is_on)
-        return;
-    call->buffers = clean(ring, worker);
+        return 0;
+    *cleaned = clean(ring, worker);
     left = room(ring);
-    while (call->count < worker->count && worker->packets[call->count].count <= left)
-        left -= worker->packets[call->count++].count;
-    for (size_t k = 0; k < call->count; k++)
-        post_packet(ring, &worker->packets[k], k + 1 == call->count);
-    worker->count -= (unsigned)call->count;
-    memmove(worker->packets, worker->packets + call->count, (worker->count + 1) * sizeof worker->packets[0]);
-    if (call->count)
+    while (fit < worker->count && worker->packets[fit].count <= left)
+        left -= worker->packets[fit++].count;
+    for (size_t k = 0; k < fit; k++)
+        post_packet(ring, &worker->packets[k], k + 1 == fit);
+    worker->count -= (unsigned)fit;
+    memmove(worker->packets, worker->packets + fit, (worker->count + 1) * sizeof worker->packets[0]);
+    if (fit)
         atomic_store(&ring->tail, ring->posted);
+    *count = fit;
+    return 1;
 }
 
 /* Joins the segments of the next frame, which must all be posted, and reports it if it asks for that. The caller has room for every frame. */

@@ -42,11 +42,7 @@ class _Call(Structure):
 
 
 class _Batch(Structure):
-    _fields_ = [("operation", c_uint32), ("answer", c_uint32), ("count", c_size_t), ("buffers", c_size_t)]
-
-
-class _Packet(Structure):
-    _fields_ = [("operation", c_uint32), ("answer", c_uint32), ("packet", c_size_t), ("len", c_size_t), ("at", c_size_t), ("byte", c_uint8)]
+    _fields_ = [("operation", c_uint32), ("answer", c_uint32), ("count", c_size_t)]
 
 
 class _Offered(Structure):
@@ -85,7 +81,11 @@ def _loaded():
         "packet_move": (c_uint32, handle, size, handle),
         "packet_read": (c_uint32, handle, size, size, write, size),
         "packet_write": (c_uint32, handle, size, size, read, size),
-        "packets_do": (None, handle, POINTER(_Packet), write, size),
+        "packet_copy": (c_uint32, handle, size, write, size, POINTER(size)),
+        "packet_touch": (c_uint32, handle, size, size, c_uint8),
+        "packet_free": (c_uint32, handle, size),
+        "packet_measure": (c_uint32, handle, size, POINTER(size), POINTER(size)),
+        "packets_measure": (c_uint32, handle, POINTER(size), POINTER(size)),
         "packets_close": (size, handle),
         "pool_new": (c_int32, c_uint32, handle),
         "pool_move": (None, handle, handle, POINTER(_Batch)),
@@ -97,7 +97,8 @@ def _loaded():
         "counters_get": (c_uint32, handle, size, POINTER(c_uint64)),
         "counters_close": (c_int64, handle),
         "rx_queue_new": (c_int32, c_uint32, size, size, c_uint32, handle, handle),
-        "rx_queue_move": (None, handle, handle, POINTER(_Batch)),
+        "rx_queue_batch": (c_uint32, handle, handle, POINTER(size), POINTER(size)),
+        "rx_queue_reclaim": (c_uint32, handle, handle, POINTER(size)),
         "rx_queue_do": (None, handle, POINTER(_Batch)),
         "offer": (c_uint32, handle, read, size),
         "rx_device_control": (c_uint32, handle),
@@ -105,7 +106,9 @@ def _loaded():
         "rx_device_count": (c_uint32, handle, POINTER(_Offered)),
         "rx_queue_close": (c_int64, handle, handle),
         "tx_queue_new": (c_int32, c_uint32, c_uint16, c_uint32, handle, handle),
-        "tx_queue_move": (None, handle, handle, POINTER(_Batch)),
+        "tx_queue_batch": (c_uint32, handle, handle, POINTER(size), POINTER(size)),
+        "tx_queue_clean": (c_uint32, handle, handle, POINTER(size)),
+        "tx_queue_reclaim": (c_uint32, handle, handle, POINTER(size)),
         "tx_queue_do": (None, handle, POINTER(_Batch)),
         "turn": (c_uint32, handle, write, size, POINTER(size)),
         "tx_device_control": (c_uint32, handle),
@@ -296,10 +299,10 @@ class Packets:
         _calls["packets_close"](byref(self._handle))
 
     def __len__(self):
-        return self._call(_Packet(operation=4)).packet
+        return self._counted()[0]
 
     def empty_buffers(self):
-        return self._call(_Packet(operation=4)).len
+        return self._counted()[1]
 
     def put(self, frame):
         frame = bytes(frame)
@@ -313,8 +316,9 @@ class Packets:
     def copy(self, packet):
         """The bytes of a packet, or None if there is no such packet."""
         room = _room(MOST_FRAME)
-        call = self._call(_Packet(operation=0, packet=packet), room)
-        return bytes(room[: call.len]) if _done(call.answer) else None
+        count = c_size_t()
+        answer = _calls["packet_copy"](byref(self._handle), packet, room, len(room), byref(count))
+        return bytes(room[: count.value]) if _done(answer) else None
 
     def read(self, packet, at, count):
         """Bytes of a packet from `at` on, or None if there is no such packet, or it ends before the range."""
@@ -328,14 +332,15 @@ class Packets:
 
     def length(self, packet):
         """How many bytes a packet has, and in how many buffers; or None if there is no such packet."""
-        call = self._call(_Packet(operation=5, packet=packet))
-        return (call.len, call.at) if _done(call.answer) else None
+        count, segments = c_size_t(), c_size_t()
+        answer = _calls["packet_measure"](byref(self._handle), packet, byref(count), byref(segments))
+        return (count.value, segments.value) if _done(answer) else None
 
     def touch(self, packet, at, byte):
-        return _done(self._call(_Packet(operation=2, packet=packet, at=at, byte=byte)).answer)
+        return _done(_calls["packet_touch"](byref(self._handle), packet, at, byte))
 
     def free(self, packet):
-        return _done(self._call(_Packet(operation=3, packet=packet)).answer, _2="stash full")
+        return _done(_calls["packet_free"](byref(self._handle), packet), _2="stash full")
 
     def move(self, packet, other):
         """Moves a packet, with its buffers, behind the packets of another worker."""
@@ -353,10 +358,11 @@ class Packets:
         _calls["pool_move"](byref(self._handle), byref(pool._handle), byref(call))
         return call.count if _done(call.answer) else 0
 
-    def _call(self, call, room=None):
-        room = room or _room(0)
-        _calls["packets_do"](byref(self._handle), byref(call), room, len(room))
-        return call
+    def _counted(self):
+        """The numbers of packets and of empty buffers."""
+        count, empty = c_size_t(), c_size_t()
+        _calls["packets_measure"](byref(self._handle), byref(count), byref(empty))
+        return count.value, empty.value
 
 
 class Pool:
@@ -436,47 +442,48 @@ class _Queue:
     def batch(self, packets):
         """Takes packets and posts empty buffers, or takes reported buffers back and posts packets. Returns how many packets it took
         or posted; `moved` is then how many empty buffers were posted or came back."""
-        call = self._moved(0, packets)
-        self.moved = call.buffers
-        if not _done(call.answer, _3="too long"):
+        moved = c_size_t()
+        answer, count = self._moved("batch", packets, byref(moved))
+        self.moved = moved.value
+        if not _done(answer, _3="too long"):
             raise Refused("not on")
-        return call.count
+        return count
 
     def reclaim(self, packets):
         """Takes back the buffers of a disabled queue. Returns how many, and whether these are all."""
-        call = self._moved(self._reclaim, packets)
-        return call.count, _done(call.answer, _2="not disabled")
+        answer, count = self._moved("reclaim", packets)
+        return count, _done(answer, _2="not disabled")
 
     def _step(self, operation):
         call = _Batch(operation=operation)
         _calls[f"{self._kind}_do"](byref(self._pair.driver), byref(call))
         return call
 
-    def _moved(self, operation, packets):
-        call = _Batch(operation=operation)
-        _calls[f"{self._kind}_move"](byref(self._pair.driver), byref(packets._handle), byref(call))
-        return call
+    def _moved(self, call, packets, *more):
+        count = c_size_t()
+        answer = _calls[f"{self._kind}_{call}"](byref(self._pair.driver), byref(packets._handle), byref(count), *more)
+        return answer, count.value
 
 
 class _RxQueue(_Queue):
-    _kind, _reclaim = "rx_queue", 1
+    _kind = "rx_queue"
 
     def is_quiet(self):
         return _done(self._step(4).answer)
 
 
 class _TxQueue(_Queue):
-    _kind, _reclaim = "tx_queue", 2
+    _kind = "tx_queue"
 
     def outstanding(self):
         """How many segments were posted whose buffers have not come back."""
         return self._step(4).count
 
     def clean(self, packets):
-        call = self._moved(1, packets)
-        if not _done(call.answer):
+        answer, count = self._moved("clean", packets)
+        if not _done(answer):
             raise Refused("not on")
-        return call.count
+        return count
 
 
 class RxDevice:

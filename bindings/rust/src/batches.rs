@@ -1,6 +1,6 @@
 //! Queues in batches, as an ixgbe driver uses them, and devices that take and send whole frames.
 
-use crate::ffi::{self, Batch, Ends, Handle, Offered, Packet};
+use crate::ffi::{self, Batch, Ends, Handle, Offered};
 use crate::results::{MakeError, Refusal, State, is_done, unanswered};
 use crate::rings::Completion;
 use std::cell::UnsafeCell;
@@ -158,12 +158,11 @@ impl Packets {
     ///
     /// Returns `NoRoom` if the room is smaller than the packet.
     pub fn copy<'a>(&self, packet: usize, room: &'a mut [u8]) -> Result<Option<&'a [u8]>, Refusal> {
-        let call = self.call(Packet { operation: 0, packet, ..Packet::default() }, room);
-        match call.answer {
-            1 => Ok(Some(&room[..call.len])),
-            0 => Ok(None),
+        let mut len = 0;
+        // SAFETY: as for `read`.
+        match unsafe { ffi::poll82599_packet_copy(self.handle.get(), packet, room.as_mut_ptr(), room.len(), &mut len) } {
             4 => Err(Refusal::NoRoom),
-            other => unanswered(other),
+            answer => Ok(is_done(answer).then(|| &room[..len])),
         }
     }
 
@@ -195,26 +194,31 @@ impl Packets {
 
     /// How many bytes a packet has, and in how many buffers; or `None` if there is no such packet.
     pub fn length(&self, packet: usize) -> Option<(usize, usize)> {
-        let call = self.call(Packet { operation: 5, packet, ..Packet::default() }, &mut []);
-        is_done(call.answer).then_some((call.len, call.at))
+        let (mut len, mut segments) = (0, 0);
+        // SAFETY: the handle is full. `Packets` is not `Sync`, so no other call uses it.
+        let answer = unsafe { ffi::poll82599_packet_measure(self.handle.get(), packet, &mut len, &mut segments) };
+        is_done(answer).then_some((len, segments))
     }
 
     /// A byte of a packet, or `None` if there is no such packet or byte.
     pub fn byte(&self, packet: usize, at: usize) -> Option<u8> {
-        let call = self.call(Packet { operation: 1, packet, at, ..Packet::default() }, &mut []);
-        is_done(call.answer).then_some(call.byte)
+        let mut byte = 0;
+        // SAFETY: as for `length`.
+        is_done(unsafe { ffi::poll82599_packet_byte(self.handle.get(), packet, at, &mut byte) }).then_some(byte)
     }
 
     /// Replaces a byte of a packet. Returns false if there is no such packet or byte.
     pub fn touch(&mut self, packet: usize, at: usize, byte: u8) -> bool {
-        is_done(self.call(Packet { operation: 2, packet, at, byte, ..Packet::default() }, &mut []).answer)
+        // SAFETY: the handle is full, and only this call uses it.
+        is_done(unsafe { ffi::poll82599_packet_touch(self.handle.get(), packet, at, byte) })
     }
 
     /// Frees a packet: its buffers are empty ones again, and later packets move up. Returns false if there is no such packet.
     ///
     /// Returns `StashFull` if the worker would have more than 256 empty buffers.
     pub fn free(&mut self, packet: usize) -> Result<bool, Refusal> {
-        match self.call(Packet { operation: 3, packet, ..Packet::default() }, &mut []).answer {
+        // SAFETY: as for `touch`.
+        match unsafe { ffi::poll82599_packet_free(self.handle.get(), packet) } {
             2 => Err(Refusal::StashFull),
             answer => Ok(is_done(answer)),
         }
@@ -246,14 +250,10 @@ impl Packets {
 
     /// The numbers of packets and of empty buffers.
     fn counted(&self) -> (usize, usize) {
-        let call = self.call(Packet { operation: 4, ..Packet::default() }, &mut []);
-        (call.packet, call.len)
-    }
-
-    fn call(&self, mut call: Packet, room: &mut [u8]) -> Packet {
-        // SAFETY: the handle is full. `Packets` is not `Sync`, so no other call uses it, and the room has its length.
-        unsafe { ffi::poll82599_packets_do(self.handle.get(), &mut call, room.as_mut_ptr(), room.len()) };
-        call
+        let (mut count, mut empty) = (0, 0);
+        // SAFETY: as for `length`.
+        unsafe { ffi::poll82599_packets_measure(self.handle.get(), &mut count, &mut empty) };
+        (count, empty)
     }
 }
 
@@ -341,9 +341,11 @@ impl RxQueue {
 
     /// Takes the packets that are complete, up to a batch, and appends them to the worker's; posts as many empty buffers as fit.
     pub fn batch(&mut self, packets: &mut Packets) -> Result<Batched, Refusal> {
-        let call = self.moved(packets, 0);
-        match call.answer {
-            1 => Ok(Batched { packets: call.count, buffers: call.buffers }),
+        let mut batched = Batched::default();
+        let Batched { packets: count, buffers: posted } = &mut batched;
+        // SAFETY: both handles are full, and only this call uses them.
+        match unsafe { ffi::poll82599_rx_queue_batch(self.ends.driver(), packets.handle.get(), count, posted) } {
+            1 => Ok(batched),
             0 => Err(Refusal::NotOn),
             other => unanswered(other),
         }
@@ -352,13 +354,6 @@ impl RxQueue {
     /// Loads the quiet word: whether the device said that it stores no more.
     pub fn is_quiet(&mut self) -> bool {
         is_done(self.step(4).0)
-    }
-
-    fn moved(&mut self, packets: &mut Packets, operation: u32) -> Batch {
-        let mut call = Batch { operation, ..Batch::default() };
-        // SAFETY: both handles are full, and only this call uses them.
-        unsafe { ffi::poll82599_rx_queue_move(self.ends.driver(), packets.handle.get(), &mut call) };
-        call
     }
 
     fn step(&mut self, operation: u32) -> (u32, usize) {
@@ -393,9 +388,11 @@ impl TxQueue {
     ///
     /// Returns `TooLong` if the oldest packet can never fit; only reported buffers came back then.
     pub fn batch(&mut self, packets: &mut Packets) -> Result<Batched, Refusal> {
-        let call = self.moved(packets, 0);
-        match call.answer {
-            1 => Ok(Batched { packets: call.count, buffers: call.buffers }),
+        let mut batched = Batched::default();
+        let Batched { packets: count, buffers: cleaned } = &mut batched;
+        // SAFETY: both handles are full, and only this call uses them.
+        match unsafe { ffi::poll82599_tx_queue_batch(self.ends.driver(), packets.handle.get(), count, cleaned) } {
+            1 => Ok(batched),
             0 => Err(Refusal::NotOn),
             3 => Err(Refusal::TooLong),
             other => unanswered(other),
@@ -410,15 +407,10 @@ impl TxQueue {
 
     /// Takes back reported buffers. Returns how many.
     pub fn clean(&mut self, packets: &mut Packets) -> Result<usize, Refusal> {
-        let call = self.moved(packets, 1);
-        is_done(call.answer).then_some(call.count).ok_or(Refusal::NotOn)
-    }
-
-    fn moved(&mut self, packets: &mut Packets, operation: u32) -> Batch {
-        let mut call = Batch { operation, ..Batch::default() };
-        // SAFETY: both handles are full, and only this call uses them.
-        unsafe { ffi::poll82599_tx_queue_move(self.ends.driver(), packets.handle.get(), &mut call) };
-        call
+        let mut count = 0;
+        // SAFETY: as for `batch`.
+        let answer = unsafe { ffi::poll82599_tx_queue_clean(self.ends.driver(), packets.handle.get(), &mut count) };
+        is_done(answer).then_some(count).ok_or(Refusal::NotOn)
     }
 
     fn step(&mut self, operation: u32) -> (u32, usize) {
@@ -429,9 +421,9 @@ impl TxQueue {
     }
 }
 
-/// The calls that queues of both directions have. `reclaim` has a number of its own in each.
+/// The calls that queues of both directions have.
 macro_rules! queue_calls {
-    ($queue:ident, reclaim $reclaim:literal) => {
+    ($queue:ident, $reclaim:ident) => {
         impl $queue {
             /// Asks for the queue to be enabled, if nothing was asked yet, and loads the control word. Returns whether it is on.
             /// Call it until it is; meanwhile the device has to call `control`.
@@ -458,10 +450,11 @@ macro_rules! queue_calls {
 
             /// Takes the buffers of a disabled queue back as empty ones of the worker.
             pub fn reclaim(&mut self, packets: &mut Packets) -> Result<Reclaimed, Refusal> {
-                let call = self.moved(packets, $reclaim);
-                match call.answer {
+                let mut buffers = 0;
+                // SAFETY: both handles are full, and only this call uses them.
+                match unsafe { ffi::$reclaim(self.ends.driver(), packets.handle.get(), &mut buffers) } {
                     2 => Err(Refusal::NotDisabled),
-                    answer => Ok(Reclaimed { buffers: call.buffers, all: is_done(answer) }),
+                    answer => Ok(Reclaimed { buffers, all: is_done(answer) }),
                 }
             }
 
@@ -474,8 +467,8 @@ macro_rules! queue_calls {
     };
 }
 
-queue_calls!(RxQueue, reclaim 1);
-queue_calls!(TxQueue, reclaim 2);
+queue_calls!(RxQueue, poll82599_rx_queue_reclaim);
+queue_calls!(TxQueue, poll82599_tx_queue_reclaim);
 
 impl RxDevice {
     /// Offers a frame that came in, of 14 to 15,000 bytes.

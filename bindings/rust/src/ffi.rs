@@ -34,19 +34,6 @@ pub struct Batch {
     pub operation: u32,
     pub answer: u32,
     pub count: usize,
-    pub buffers: usize,
-}
-
-/// `struct poll82599_packet`.
-#[repr(C)]
-#[derive(Default)]
-pub struct Packet {
-    pub operation: u32,
-    pub answer: u32,
-    pub packet: usize,
-    pub len: usize,
-    pub at: usize,
-    pub byte: u8,
 }
 
 /// `struct poll82599_offered`.
@@ -106,7 +93,12 @@ unsafe extern "C" {
     pub fn poll82599_packet_move(packets: *mut Handle, packet: usize, other: *mut Handle) -> u32;
     pub fn poll82599_packet_read(packets: *mut Handle, packet: usize, at: usize, bytes: *mut u8, len: usize) -> u32;
     pub fn poll82599_packet_write(packets: *mut Handle, packet: usize, at: usize, bytes: *const u8, len: usize) -> u32;
-    pub fn poll82599_packets_do(packets: *mut Handle, call: *mut Packet, bytes: *mut u8, room: usize);
+    pub fn poll82599_packet_copy(packets: *mut Handle, packet: usize, bytes: *mut u8, room: usize, len: *mut usize) -> u32;
+    pub fn poll82599_packet_byte(packets: *mut Handle, packet: usize, at: usize, byte: *mut u8) -> u32;
+    pub fn poll82599_packet_touch(packets: *mut Handle, packet: usize, at: usize, byte: u8) -> u32;
+    pub fn poll82599_packet_free(packets: *mut Handle, packet: usize) -> u32;
+    pub fn poll82599_packet_measure(packets: *mut Handle, packet: usize, len: *mut usize, segments: *mut usize) -> u32;
+    pub fn poll82599_packets_measure(packets: *mut Handle, count: *mut usize, empty: *mut usize) -> u32;
     pub fn poll82599_packets_close(packets: *mut Handle) -> usize;
     pub fn poll82599_pool_new(buffers: u32, pool: *mut Handle) -> i32;
     pub fn poll82599_pool_move(packets: *mut Handle, pool: *mut Handle, call: *mut Batch);
@@ -125,7 +117,8 @@ unsafe extern "C" {
         queue: *mut Handle,
         device: *mut Handle,
     ) -> i32;
-    pub fn poll82599_rx_queue_move(queue: *mut Handle, packets: *mut Handle, call: *mut Batch);
+    pub fn poll82599_rx_queue_batch(queue: *mut Handle, packets: *mut Handle, count: *mut usize, posted: *mut usize) -> u32;
+    pub fn poll82599_rx_queue_reclaim(queue: *mut Handle, packets: *mut Handle, count: *mut usize) -> u32;
     pub fn poll82599_rx_queue_do(queue: *mut Handle, call: *mut Batch);
     pub fn poll82599_offer(device: *mut Handle, frame: *const u8, len: usize) -> u32;
     pub fn poll82599_rx_device_control(device: *mut Handle) -> u32;
@@ -133,7 +126,9 @@ unsafe extern "C" {
     pub fn poll82599_rx_device_count(device: *mut Handle, counts: *mut Offered) -> u32;
     pub fn poll82599_rx_queue_close(queue: *mut Handle, device: *mut Handle) -> i64;
     pub fn poll82599_tx_queue_new(descriptors: u32, every: u16, by_head: u32, queue: *mut Handle, device: *mut Handle) -> i32;
-    pub fn poll82599_tx_queue_move(queue: *mut Handle, packets: *mut Handle, call: *mut Batch);
+    pub fn poll82599_tx_queue_batch(queue: *mut Handle, packets: *mut Handle, count: *mut usize, cleaned: *mut usize) -> u32;
+    pub fn poll82599_tx_queue_clean(queue: *mut Handle, packets: *mut Handle, count: *mut usize) -> u32;
+    pub fn poll82599_tx_queue_reclaim(queue: *mut Handle, packets: *mut Handle, count: *mut usize) -> u32;
     pub fn poll82599_tx_queue_do(queue: *mut Handle, call: *mut Batch);
     pub fn poll82599_turn(device: *mut Handle, bytes: *mut u8, room: usize, len: *mut usize) -> u32;
     pub fn poll82599_tx_device_control(device: *mut Handle) -> u32;

@@ -14,28 +14,13 @@ pub struct Poll82599Call {
     pub paylen: u32,
 }
 
-/// A step of a queue, its result, and a count of packets taken or posted, buffers returned, segments left, or bytes
-/// sent. A step that moves packets also counts the empty buffers that left the worker or came back.
+/// A step of a queue or a pool, its result, and a count of buffers or segments.
 #[repr(C)]
 #[derive(Clone, Copy)]
 pub struct Poll82599Queue {
     pub operation: u32,
     pub answer: u32,
     pub count: usize,
-    pub buffers: usize,
-}
-
-/// A step on a worker's packets and its result: the packet's index and length in bytes, and a byte's index and value.
-/// Both indices count from 0.
-#[repr(C)]
-#[derive(Clone, Copy)]
-pub struct Poll82599Packet {
-    pub operation: u32,
-    pub answer: u32,
-    pub packet: usize,
-    pub len: usize,
-    pub at: usize,
-    pub byte: u8,
 }
 
 /// The frame counts of a receive queue's device.

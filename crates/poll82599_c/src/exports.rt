@@ -57,7 +57,9 @@ macro_rules! step_both {
 mod calling;
 mod closing;
 mod counting;
+mod handling;
 mod making;
+mod moving;
 mod playing;
 mod reading;
 mod supplying;

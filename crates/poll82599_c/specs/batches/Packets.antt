@@ -6,7 +6,6 @@ use Rattle.buffer_pool.specs.declared.stash.TheConstants.{STASH_BUFFERS}
 use Rattle.limits.specs.declared.profile.TheConstants.{BUFFER_BYTES, MOST_BATCH, MOST_FRAME, MOST_SEGMENTS}
 use Rattle.ring_model.specs.shared.Frames.{Bytes, HasFrameLength}
 use Rattle.poll82599_c.specs.Stashes.{AreBuffers}
-use Rattle.poll82599_c.specs.declared.call.Poll82599Packet.{Poll82599Packet}
 use Rattle.poll82599_c.specs.Held.{Of, There}
 
 -- A worker's empty buffers, by their numbers, in the order in which they are taken; and its packets, the oldest first
@@ -214,14 +213,3 @@ TriedMeasure _ i len segments old new = ⊥
 abbrev pub TriedCount : ℕ → ℕ → ℕ → Worked → Worked → Type 0
 TriedCount (suc zero) packets buffers old new = Counted packets buffers old new
 TriedCount _ packets buffers old new = ⊥
-
--- the step of an operation, by its number, with the call before and after it; the room changes only if a packet is
--- copied
-abbrev pub Handled : ℕ → Poll82599Packet → Poll82599Packet → Bytes → Bytes → Worked → Worked → Type 0
-Handled zero asked told before after old new = TriedCopy told.answer asked.packet told.len before after old new
-Handled (suc zero) asked told before after old new = TriedRead told.answer asked.packet asked.at told.byte old new × (after ≡ before)
-Handled (suc (suc zero)) asked told before after old new = TriedTouch told.answer asked.packet asked.at asked.byte old new × (after ≡ before)
-Handled (suc (suc (suc zero))) asked told before after old new = TriedRelease told.answer asked.packet old new × (after ≡ before)
-Handled (suc (suc (suc (suc zero)))) asked told before after old new = TriedCount told.answer told.packet told.len old new × (after ≡ before)
-Handled (suc (suc (suc (suc (suc zero))))) asked told before after old new = TriedMeasure told.answer asked.packet told.len told.at old new × (after ≡ before)
-Handled _ asked told before after old new = (told.answer ≡ 4294967295) × (new ≡ old) × (after ≡ before)

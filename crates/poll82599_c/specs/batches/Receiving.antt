@@ -90,12 +90,6 @@ abbrev pub TriedBatch : ℕ → ℕ → Receiver → Worked → Receiver → Wor
 TriedBatch = TriedLive receiver TookBatch
 
 -- the step of an operation, by its number, with this result
-abbrev pub Moved : ℕ → ℕ → ℕ → Receiver → Worked → Receiver → Worked → Type 0
-Moved zero answer count old had new has = TriedBatch answer count old had new has
-Moved (suc zero) answer count old had new has = TriedReclaim receiver answer count old had new has
-Moved _ answer count old had new has = answer ≡ 4294967295
-
--- the step of an operation, by its number, with this result
 abbrev pub Did : ℕ → ℕ → ℕ → Receiver → Receiver → Type 0
 Did (suc (suc (suc (suc zero)))) answer count old new = FoundQuiet answer old new
 Did operation answer count old new = DidAlike receiver operation answer count old new

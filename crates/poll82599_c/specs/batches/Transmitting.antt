@@ -96,13 +96,6 @@ TriedBatch _ count old had new has = ⊥
 abbrev pub TriedCleaning : ℕ → ℕ → Transmitter → Worked → Transmitter → Worked → Type 0
 TriedCleaning = TriedLive transmitter CleanedSome
 
--- the step of an operation, by its number, with this result
-abbrev pub Moved : ℕ → ℕ → ℕ → Transmitter → Worked → Transmitter → Worked → Type 0
-Moved zero answer count old had new has = TriedBatch answer count old had new has
-Moved (suc zero) answer count old had new has = TriedCleaning answer count old had new has
-Moved (suc (suc zero)) answer count old had new has = TriedReclaim transmitter answer count old had new has
-Moved _ answer count old had new has = answer ≡ 4294967295
-
 -- 1, and `count` segments were posted that have not come back; nothing is done
 pub record IsOutstanding (answer count : ℕ) (old new : Transmitter) : Type 0 where
   pub done : answer ≡ 1

@@ -2,6 +2,7 @@
 ghost use Rattle.std.specs.Prelude.{◌≡◌, true, false, IfOk, OnErr, OnOk};
 ghost use Rattle.ring_model.specs.shared.Handshakes.{is_on, is_stopped};
 ghost use Rattle.shared_ring.specs.Ends.{driver_state};
+ghost use Rattle.poll82599_c.specs.batches.Packets.{MovedBuffers};
 ghost use Rattle.poll82599_c.specs.batches.Queues.{AllCame, AskedDisable, FilledUp, directed, TriedDisable, TriedEnable, TriedEnabling, TriedFinish, TriedLeft, TriedReclaim, TriedRenewal};
 ghost use Rattle.poll82599_c.specs.batches.Receiving.{FoundQuiet, receiver};
 ghost use Rattle.poll82599_c.specs.batches.Receiving as rx;
@@ -65,18 +66,23 @@ pub trait BatchQueue: Sized {
         ensures renewed { OnOk result (way.kind.Renewed self.old self.new) }
         ensures left { OnErr result ((¬ way.kind.IsEmptied self.old) × (self.new ≡ self.old)) };
 
-    /// Takes the buffers of a disabled queue back into the stash. Returns 1: done, and how many; 0: the stash is full,
+    /// Takes the buffers of a disabled queue back into the stash, and counts them. Returns 1: done; 0: the stash is full,
     /// and some are left; 2: no disabling was seen answered.
     final fn reclaim(&mut self, packets: &mut Packets) -> Found
         ensures own { (way.kind.end_of self.new).table ≡ (way.kind.end_of self.old).table }
         ensures step { TriedReclaim way.kind result.answer result.count self.old packets.old self.new packets.new }
+        ensures some { (result.answer ≡ 0) → MovedBuffers result.count packets.old packets.new }
     {
         if !self.is_stopped() {
             return Found::nothing(2);
         }
+        let had = packets.stash.len();
         match self.try_reclaim(packets) {
             Ok(count) => Found { answer: 1, count },
-            Err(_) => Found::nothing(0),
+            Err(_) => Found {
+                answer: 0,
+                count: packets.moved_since(had),
+            },
         }
     }
 

@@ -1,13 +1,12 @@
-//! The exports that step an end, a queue or a worker's packets.
+//! The exports that step an end or a queue's driver.
 //!
-//! Each but `poll82599_packets_put`, `poll82599_packets_append` and `poll82599_packet_move` takes an operation's number
-//! in the call record and puts its result there. 1 means done; the other results are listed. `0xFFFF_FFFF` means an
-//! unknown operation, or a handle that is empty or of another kind; nothing changes. A handle is in one call at a time.
+//! Each takes an operation's number in the call record and puts its result there. 1 means done; the other results are
+//! listed. `0xFFFF_FFFF` means an unknown operation, or a handle that is empty or of another kind; nothing changes. A
+//! handle is in one call at a time.
 ghost use Rattle.std.specs.Prelude.{◌≡◌, ◌≢◌, ◌<◌, ◌⊎◌, None};
 ghost use Rattle.ffi_handle.specs.Words.{is_set};
-ghost use Rattle.poll82599_c.specs.Handles.{as_packets, as_rx_controller, as_rx_driver, as_rx_queue, as_tx_controller, as_tx_driver, as_tx_queue};
-ghost use Rattle.poll82599_c.specs.Held.{Among, Between};
-ghost use Rattle.poll82599_c.specs.batches.Packets.{Handled, MovedBuffers, TriedAppend, TriedMove, TriedPut};
+ghost use Rattle.poll82599_c.specs.Handles.{as_rx_controller, as_rx_driver, as_rx_queue, as_tx_controller, as_tx_driver, as_tx_queue};
+ghost use Rattle.poll82599_c.specs.Held.{Between};
 ghost use Rattle.poll82599_c.specs.batches.Queues.{SameQueue};
 ghost use Rattle.poll82599_c.specs.batches.Receiving.{receiver};
 ghost use Rattle.poll82599_c.specs.batches.Receiving as rx_queue;
@@ -17,10 +16,10 @@ ghost use Rattle.poll82599_c.specs.rings.RxEnds as rx;
 ghost use Rattle.poll82599_c.specs.rings.Steps.{SameDriven, SameServed};
 ghost use Rattle.poll82599_c.specs.rings.TxEnds as tx;
 
-use crate::batches::{BatchQueue, Found};
-use crate::call::{NO_OPERATION, Poll82599Call, Poll82599Packet, Poll82599Queue};
+use crate::batches::BatchQueue;
+use crate::call::{NO_OPERATION, Poll82599Call, Poll82599Queue};
 use crate::end::End;
-use crate::handle::{Handle, take_both};
+use crate::handle::Handle;
 use crate::rings::Asking;
 use ffi_handle::is_set;
 use shared_ring::HandshakeStep;
@@ -174,73 +173,6 @@ pub extern "C" fn poll82599_tx_serve(
     });
 }
 
-/// Moves buffers between a receive queue and a worker, counts in `count`, and in `buffers` the empty buffers that were
-/// posted or came back. The driver's thread calls it. The operations:
-/// - 0 takes a batch of packets and posts empty buffers. 0: the queue was not seen on, or was seen off.
-/// - 1 takes the buffers of a disabled queue back into the stash. 0: the stash is full; 2: it was not seen disabled.
-#[unsafe(no_mangle)]
-pub extern "C" fn poll82599_rx_queue_move(
-    alloc: Global,
-    queue: &mut Handle,
-    packets: &mut Handle,
-    call: &mut Poll82599Queue,
-)
-    ensures other { (as_rx_queue queue.old.held ≡ None) ⊎ (as_packets packets.old.held ≡ None) → (call.new.answer ≡ 4294967295) × (queue.new.held ≡ queue.old.held) × (packets.new.held ≡ packets.old.held) }
-    ensures own { SameQueue receiver (as_rx_queue queue.old.held) (as_rx_queue queue.new.held) }
-    ensures step { Among (rx_queue.Moved call.old.operation call.new.answer call.new.count) (as_rx_queue queue.old.held) (as_packets packets.old.held) (as_rx_queue queue.new.held) (as_packets packets.new.held) }
-    ensures buffers { Among (λ _ had _ has. MovedBuffers call.new.buffers had has) (as_rx_queue queue.old.held) (as_packets packets.old.held) (as_rx_queue queue.new.held) (as_packets packets.new.held) }
-    ensures kept { (1 < call.old.operation) → (queue.new.held ≡ queue.old.held) × (packets.new.held ≡ packets.old.held) }
-{
-    let none = Found::nothing(NO_OPERATION);
-    let found = step_both!(alloc, queue, packets, none, RxQueue(receiving), Packets(held) => {
-        let had = held.stash.len();
-        let found = match call.operation {
-            0 => receiving.batch(held),
-            1 => receiving.reclaim(held),
-            _ => Found::nothing(NO_OPERATION),
-        };
-        call.buffers = held.moved_since(had);
-        found
-    });
-    call.answer = found.answer;
-    call.count = found.count;
-}
-
-/// Moves buffers between a worker and a transmit queue, counts in `count`, and in `buffers` the empty buffers that came
-/// back. The driver's thread calls it. The operations:
-/// - 0 takes reported buffers back and posts packets. 0: the queue was not seen on, or was seen off; 3: the oldest
-///   packet is too long.
-/// - 1 takes reported buffers back. 0: the queue was not seen on, or was seen off.
-/// - 2 takes the buffers of a disabled queue back into the stash. 0: the stash is full; 2: it was not seen disabled.
-#[unsafe(no_mangle)]
-pub extern "C" fn poll82599_tx_queue_move(
-    alloc: Global,
-    queue: &mut Handle,
-    packets: &mut Handle,
-    call: &mut Poll82599Queue,
-)
-    ensures other { (as_tx_queue queue.old.held ≡ None) ⊎ (as_packets packets.old.held ≡ None) → (call.new.answer ≡ 4294967295) × (queue.new.held ≡ queue.old.held) × (packets.new.held ≡ packets.old.held) }
-    ensures own { SameQueue transmitter (as_tx_queue queue.old.held) (as_tx_queue queue.new.held) }
-    ensures step { Among (tx_queue.Moved call.old.operation call.new.answer call.new.count) (as_tx_queue queue.old.held) (as_packets packets.old.held) (as_tx_queue queue.new.held) (as_packets packets.new.held) }
-    ensures buffers { Among (λ _ had _ has. MovedBuffers call.new.buffers had has) (as_tx_queue queue.old.held) (as_packets packets.old.held) (as_tx_queue queue.new.held) (as_packets packets.new.held) }
-    ensures kept { (2 < call.old.operation) → (queue.new.held ≡ queue.old.held) × (packets.new.held ≡ packets.old.held) }
-{
-    let none = Found::nothing(NO_OPERATION);
-    let found = step_both!(alloc, queue, packets, none, TxQueue(sending), Packets(held) => {
-        let had = held.stash.len();
-        let found = match call.operation {
-            0 => sending.batch(held),
-            1 => sending.clean(held),
-            2 => sending.reclaim(held),
-            _ => Found::nothing(NO_OPERATION),
-        };
-        call.buffers = held.moved_since(had);
-        found
-    });
-    call.answer = found.answer;
-    call.count = found.count;
-}
-
 /// Steps a receive queue's driver. The driver's thread calls it. The operations:
 /// - 0 asks for an enabling, if nothing was asked yet, and loads the control word. 0: not on yet; 2: seen disabled,
 ///   renew it first.
@@ -300,90 +232,6 @@ pub extern "C" fn poll82599_tx_queue_do(
         4 => {
             let found = sending.outstanding();
             call.count = found.count;
-            found.answer
-        }
-        _ => NO_OPERATION,
-    });
-}
-
-/// Makes a packet of a frame and appends it. The worker's thread calls it. Returns 1: done; 0: there are 32 packets, or
-/// too few empty buffers; 2: the length is not 14 to 15,000.
-#[unsafe(no_mangle)]
-pub extern "C" fn poll82599_packets_put(alloc: Global, packets: &mut Handle, frame: &[u8]) -> u32
-    ensures other { as_packets packets.old.held ≡ None → (result ≡ 4294967295) × (packets.new.held ≡ packets.old.held) }
-    ensures step { Between (TriedPut result frame.now) (as_packets packets.old.held) (as_packets packets.new.held) }
-{
-    step!(alloc, packets, Packets(held) => held.put(frame))
-}
-
-/// Appends a segment of 1 to 2,048 bytes to the last packet. The worker's thread calls it. Returns 1: done; 0: there is
-/// no packet, or no empty buffer; 2: the length is another, or the packet would be too long.
-#[unsafe(no_mangle)]
-pub extern "C" fn poll82599_packets_append(alloc: Global, packets: &mut Handle, bytes: &[u8]) -> u32
-    ensures other { as_packets packets.old.held ≡ None → (result ≡ 4294967295) × (packets.new.held ≡ packets.old.held) }
-    ensures step { Between (TriedAppend result bytes.now) (as_packets packets.old.held) (as_packets packets.new.held) }
-{
-    step!(alloc, packets, Packets(held) => held.append(bytes))
-}
-
-/// Moves a packet, with its buffers, to the end of another worker's packets. The thread of both workers calls it.
-/// Returns 1: done; 0: there is no such packet, or the other worker has 32 packets.
-#[unsafe(no_mangle)]
-pub extern "C" fn poll82599_packet_move(
-    alloc: Global,
-    packets: &mut Handle,
-    packet: usize,
-    other: &mut Handle,
-) -> u32
-    ensures other { (as_packets packets.old.held ≡ None) ⊎ (as_packets other.old.held ≡ None) → (result ≡ 4294967295) × (packets.new.held ≡ packets.old.held) × (other.new.held ≡ other.old.held) }
-    ensures step { Among (TriedMove result packet) (as_packets packets.old.held) (as_packets other.old.held) (as_packets packets.new.held) (as_packets other.new.held) }
-{
-    step_both!(alloc, packets, other, NO_OPERATION, Packets(held), Packets(receiving) => {
-        held.move_to(packet, receiving)
-    })
-}
-
-/// Handles one of a worker's packets. The worker's thread calls it. With 0 to 3 and 5 the result is 0 if there is no such
-/// packet or byte. The operations:
-/// - 0 copies a packet into `room`, with its length in `len`. 4: `room` is too small.
-/// - 1 reads a byte.
-/// - 2 replaces a byte in place.
-/// - 3 frees a packet into the stash. 2: the stash has no room for its buffers.
-/// - 4 counts the packets in `packet`, and the empty buffers in `len`.
-/// - 5 returns the packet's length in `len`, and how many buffers it has in `at`.
-#[unsafe(no_mangle)]
-pub extern "C" fn poll82599_packets_do(
-    alloc: Global,
-    packets: &mut Handle,
-    call: &mut Poll82599Packet,
-    room: &mut [u8],
-)
-    ensures other { as_packets packets.old.held ≡ None → (call.new.answer ≡ 4294967295) × (packets.new.held ≡ packets.old.held) × (room.new ≡ room.old) }
-    ensures step { Between (Handled call.old.operation call.old call.new room.old room.new) (as_packets packets.old.held) (as_packets packets.new.held) }
-    ensures kept { (call.new.answer ≢ 1) → packets.new.held ≡ packets.old.held }
-{
-    step_call!(alloc, packets, call, Packets(held) => match call.operation {
-        0 => {
-            let found = held.copy(call.packet, room);
-            call.len = found.count;
-            found.answer
-        }
-        1 => {
-            let (answer, byte) = held.byte(call.packet, call.at);
-            call.byte = byte;
-            answer
-        }
-        2 => held.touch(call.packet, call.at, call.byte),
-        3 => held.release(call.packet),
-        4 => {
-            call.packet = held.list.len();
-            call.len = held.stash.len();
-            1
-        }
-        5 => {
-            let (found, segments) = held.measure(call.packet);
-            call.len = found.count;
-            call.at = segments;
             found.answer
         }
         _ => NO_OPERATION,
