@@ -440,9 +440,9 @@ enum poll82599_tx_queue_operation {
     POLL82599_TX_QUEUE_OUTSTANDING = 4
 };
 
-/* Exported functions; more are declared below. poll82599_pool_move and those called ..._do take the number of an operation, for which
- * there is an inline function below. To those called ..._measure and ..._queue_batch no pointer is null; below is an inline function for
- * each to which it may be. */
+/* Exported functions; more are declared below. poll82599_pool_move and those called ..._do take the number of an operation; below is an
+ * inline function for each operation. Those called ..._measure and ..._queue_batch take no null pointer; the inline functions
+ * poll82599_packet_length, poll82599_packets_count, poll82599_rx_batch and poll82599_tx_batch call them, and take one. */
 int32_t poll82599_packets_new(uint32_t buffers, struct poll82599_packets *packets);
 uint32_t poll82599_packets_put(struct poll82599_packets *packets, const uint8_t *frame, size_t len);
 uint32_t poll82599_packets_append(struct poll82599_packets *packets, const uint8_t *bytes, size_t len);
@@ -559,8 +559,8 @@ static inline uint32_t poll82599_packets_return(struct poll82599_packets *packet
 
 /* ---- Counters.
  *
- * A thread tells others how far it is: it writes counters, and other threads read them, each by a reader of its own. A call makes one
- * store or one or two loads, and none waits. What a counter counts is up to the program: the frames taken, posted or sent, for example.
+ * A thread tells others how far it is: it writes counters, and other threads read them, each by a reader of its own. A call makes a
+ * load, and poll82599_counters_set also a store; none waits. What a counter counts is up to the program: the frames taken, posted or sent, for example.
  *
  * poll82599_counters_set writes counter `at`. Returns 1: done; 0: `at` is not below 8, or the counter is above `number`.
  * poll82599_counters_get reads counter `at`, by a reader's handle only. Returns 1: done; 0: `at` is not below 8. No counter falls from one
