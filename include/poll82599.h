@@ -38,7 +38,7 @@
  * - a handle is in one call at a time. The two ends of a ring may be in calls of two threads at the same time;
  * - a handle may go to another thread between two calls, if a lock, the start or join of a thread, or a sequentially consistent
  *   atomic orders the two calls;
- * - a ..._new call is given different handles; a ..._close call the two ends of one ring, which no other thread uses any more;
+ * - the handles of a call differ; a ..._close call is given the two ends of one ring, which no other thread uses any more;
  * - a pointer to bytes has at least as many bytes as its length argument says. No pointer is null, unless a comment allows it. */
 #ifndef POLL82599_H
 #define POLL82599_H

@@ -344,6 +344,8 @@ class Packets:
 
     def move(self, packet, other):
         """Moves a packet, with its buffers, behind the packets of another worker."""
+        if other is self:
+            raise ValueError("a packet moves to another worker")
         return _done(_calls["packet_move"](byref(self._handle), packet, byref(other._handle)))
 
     def refill(self, pool):

@@ -120,6 +120,7 @@ class Batches(unittest.TestCase):
         self.assertFalse(packets.append(b"x"))
         self.assertTrue(packets.put(frame(1)[:20]) and packets.append(frame(1)[20:]) and packets.put(frame(2)))
         self.assertEqual((packets.move(2, others), packets.move(0, others)), (False, True))
+        self.assertRaises(ValueError, packets.move, 0, packets)
         self.assertEqual((len(packets), packets.copy(0), others.copy(0)), (1, frame(2), frame(1)))
         self.assertEqual(refusal(packets.append, b""), "unfit")
         self.assertEqual((packets.empty_buffers(), others.empty_buffers()), (13, 16))

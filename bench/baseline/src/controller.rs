@@ -95,18 +95,12 @@ impl<'a> RxController<'a> {
         let mut rest = frame;
         while self.bsize < rest.len() {
             let (piece, more) = rest.split_at(self.bsize);
-            self.store(piece, false);
+            self.end.store(piece, false);
             rest = more;
         }
-        self.store(rest, true);
+        self.end.store(rest, true);
         self.end.set_head();
         Offer::Stored
-    }
-
-    fn store(&mut self, bytes: &[u8], eop: bool) {
-        let mut buffer = self.end.fetch();
-        buffer.fill(bytes);
-        self.end.write_back(buffer, eop);
     }
 
     pub fn tally(&self) -> Tally {
@@ -187,14 +181,7 @@ impl<'a> TxController<'a> {
             return Turn::Idle;
         }
         wire.reserve();
-        loop {
-            let (buffer, eop) = self.end.fetch();
-            wire.bytes.extend_from_slice(buffer.bytes());
-            self.end.give_back(buffer);
-            if eop {
-                break;
-            }
-        }
+        while !self.end.send(&mut wire.bytes) {}
         wire.ends.push(wire.bytes.len());
         if self.end.owes_report() {
             self.end.report();

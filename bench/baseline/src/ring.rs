@@ -215,10 +215,25 @@ impl Controller<'_> {
 
     /// Writes the fetched descriptor back, with the buffer's bytes.
     pub fn write_back(&mut self, buffer: Buffer, eop: bool) {
-        let eop = if eop { EOP } else { 0 };
-        let word = DD + eop + ((buffer.bytes().len() as u64) << LENGTH_SHIFT);
+        let length = buffer.bytes().len();
         // SAFETY: the place was fetched, and belongs to the controller until the store.
         unsafe { self.table.put_in(self.next, buffer) };
+        self.give(length, eop);
+    }
+
+    /// Fetches the next free descriptor and writes it back with these bytes. The buffer stays in its slot. At least one
+    /// descriptor must be known to be free.
+    pub fn store(&mut self, bytes: &[u8], eop: bool) {
+        let _word = self.table.load(self.next);
+        // SAFETY: the place is before a published tail, and belongs to the controller until the store.
+        unsafe { self.table.slot(self.next) }.fill(bytes);
+        self.give(bytes.len(), eop);
+    }
+
+    /// Stores the write-back of the next descriptor.
+    fn give(&mut self, length: usize, eop: bool) {
+        let eop = if eop { EOP } else { 0 };
+        let word = DD + eop + ((length as u64) << LENGTH_SHIFT);
         self.table.store(self.next, word);
         self.next = self.table.after(self.next);
         self.known -= 1;

@@ -82,4 +82,17 @@ impl Table {
             slot.take().expect("a slot that changes hands is full")
         }
     }
+
+    /// The buffer in a slot.
+    ///
+    /// # Safety
+    /// The caller is the only end that may use the slot, and the slot is full. It uses the buffer before its next step.
+    #[inline]
+    #[expect(clippy::mut_from_ref, reason = "the words say who may use a slot")]
+    pub unsafe fn slot(&self, place: usize) -> &mut Buffer {
+        unsafe {
+            let slot = &mut *self.slots[place].get();
+            slot.as_mut().expect("a slot that changes hands is full")
+        }
+    }
 }

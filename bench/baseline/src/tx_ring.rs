@@ -237,11 +237,26 @@ impl Controller<'_> {
     pub fn give_back(&mut self, buffer: Buffer) {
         // SAFETY: the place was fetched, and belongs to the controller until the store.
         unsafe { self.table.put_in(self.serve, buffer) };
+        self.sent(self.asks);
+    }
+
+    /// Fetches the next descriptor, appends its buffer's bytes to `bytes`, and gives it back. The buffer stays in its
+    /// slot. Returns whether it ends its frame. At least one must be ready.
+    pub fn send(&mut self, bytes: &mut Vec<u8>) -> bool {
+        let word = self.table.load(self.serve);
+        // SAFETY: the place is before a published tail, and belongs to the controller until the store.
+        bytes.extend_from_slice(unsafe { self.table.slot(self.serve) }.bytes());
+        self.sent(word & RS != 0);
+        word & EOP != 0
+    }
+
+    /// Stores the head past the next descriptor.
+    fn sent(&mut self, asks: bool) {
         self.last = self.serve;
         self.serve = self.table.after(self.serve);
         self.table.store_register(Register::Head, self.serve as u64);
         self.ready -= 1;
-        self.owed = self.asks;
+        self.owed = asks;
     }
 
     /// Whether the last descriptor that was sent asked for a report that is not made yet.

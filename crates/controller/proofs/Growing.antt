@@ -10,10 +10,10 @@ use Rattle.ring_model.proofs.shared.Cuts.{ends-cut}
 use Rattle.ring_laws.specs.Frames.{follows-cut, unfinished-whole, frames-append, unfinished-append, unfinished-snoc}
 use Rattle.shared_ring.specs.declared.events.ControllerEvent.TheVariants.{StoredHead}
 use Rattle.rx_ring.specs.Records.{RxControlled}
+use Rattle.rx_ring.specs.Calls.{StoredBytes, StoredSegment}
 use Rattle.rx_ring.specs.Ends.{ControllerSide, controller_size, controller_record, stored, known_free, held, serve_place, controller_grown}
 use Rattle.controller.specs.Chained.{Chained}
-use Rattle.controller.specs.Receiving.{IsIdle, StoredSegment, StoredFrame}
-use Rattle.controller.specs.Storing.{StoredBytes}
+use Rattle.controller.specs.Receiving.{IsIdle, StoredFrame}
 use Rattle.controller.proofs.Cutting.{cut-more, cut-last, length-cut, Carried, carried_front}
 use Rattle.controller.proofs.Stepping.{chained-nil, chained-snoc}
 
@@ -59,11 +59,11 @@ goes_on b f old now new rest piece more pos i h front back st =
     let first : piece_of s ∷ cut b more ≡ cut b rest = ap (λ (x : Bytes). record { bytes = x; eop = false } ∷ cut b more) front ∙ (ap (λ (x : Bytes). record { bytes = take b rest; eop = false } ∷ cut b x) back ∙ sym (cut-more b rest pos h)) in
     record {
       segments = i.segments ++ s ∷ [];
-      each = chained-snoc StoredSegment old i.segments now s new i.each st.stored;
-      grew = grown old now new i.segments s i.grew st.stored.grew;
+      each = chained-snoc StoredSegment old i.segments now s new i.each st.stored_as;
+      grew = grown old now new i.segments s i.grew st.stored_as.grew;
       pieces = ap (λ (l : List Piece). l ++ cut b more) (map-append piece_of i.segments (s ∷ [])) ∙ (append_assoc (map piece_of i.segments) (piece_of s ∷ []) (cut b more) ∙ (ap (λ (l : List Piece). map piece_of i.segments ++ l) first ∙ i.pieces));
-      begun = ap (λ (x : RxControlled). unfinished piece_of x.completed) st.stored.grew ∙ (unfinished-snoc piece_of (stored now) s ∙ ap (λ (l : List (Segment Bytes)). l ++ s ∷ []) i.begun);
-      own = stepped now new s st.stored ∙ i.own;
+      begun = ap (λ (x : RxControlled). unfinished piece_of x.completed) st.stored_as.grew ∙ (unfinished-snoc piece_of (stored now) s ∙ ap (λ (l : List (Segment Bytes)). l ++ s ∷ []) i.begun);
+      own = stepped now new s st.stored_as ∙ i.own;
       some = rw back (omega arith);
     }
 
@@ -113,14 +113,14 @@ ends_frame_with b f old now last new rest pos some whole i h st head e =
     let s : Segment Bytes = record { number = st.number; payload = rest; eop = true } in
     let all = i.segments ++ s ∷ [] in
     let pieces : map piece_of all ≡ cut b f = map-append piece_of i.segments (s ∷ []) ∙ (ap (λ (l : List Piece). map piece_of i.segments ++ l) (sym (cut-last b rest i.some h)) ∙ i.pieces) in
-    let grew : controller_record last ≡ record (controller_record old) { completed = stored old ++ all; held = None } = grown old now last i.segments s i.grew st.stored.grew in
+    let grew : controller_record last ≡ record (controller_record old) { completed = stored old ++ all; held = None } = grown old now last i.segments s i.grew st.stored_as.grew in
     let after : stored new ≡ stored old ++ all = ap (λ (x : RxControlled). x.completed) e ∙ ap (λ (x : RxControlled). x.completed) grew in
     let done = whole_frame b f (stored old) all pos some whole pieces in
     let same : new.table ≡ last.table = ap (λ (c : ControllerSide). c.table) head in (
       record {
         segments = all;
         last = last;
-        each = chained-snoc StoredSegment old i.segments now s last i.each st.stored;
+        each = chained-snoc StoredSegment old i.segments now s last i.each st.stored_as;
         head = head;
         pieces = pieces;
         grew = e ∙ ap (λ (x : RxControlled). record x { head = serve_place last }) grew;
@@ -131,5 +131,5 @@ ends_frame_with b f old now last new rest pos some whole i h st head e =
         at_frame_end = unfinished-whole piece_of (stored new) (ap (unfinished piece_of) after ∙ done.1);
         head = ap (λ (x : RxControlled). x.head) e ∙ (ap (λ (x : RxControlled). length x.completed % controller_size last) (sym e) ∙ ap (λ (t : TableId). length (stored new) % t.slots) (sym same));
       },
-      same ∙ (stepped now last s st.stored ∙ i.own),
+      same ∙ (stepped now last s st.stored_as ∙ i.own),
     )

@@ -124,7 +124,7 @@ module _ (old now : ControllerSide) (first room : Bytes) (arena arena' : Laid) (
         let long_is = ap length begun in
         let was_long = ap length r.begun in
         let left = r.left in
-        let less = w.room_left in
+        let less = w.room in
         record {
           past_is = w.past_is ∙ r.past_is;
           kept = w.kept ∙ r.kept;

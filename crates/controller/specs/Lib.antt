@@ -4,6 +4,7 @@ pub mod Handshaking
 pub mod Laid
 pub mod Receiving
 pub mod Sending
+pub mod Puttings
 pub mod Storing
 pub mod Tallying
 pub mod Transmitting

@@ -1,15 +1,13 @@
 -- The behaviour of the device's side of a receive queue.
-use Rattle.std.specs.Prelude.{◌≡◌, ℕ, ◌<◌, ◌≤◌, ◌⊎◌, Bool, true, false, not, ◌&&◌, List, [], ◌∷◌, ◌++◌, map, length, None, Result, Ok, Err}
-use Rattle.buffer_pool.specs.Buffer.{buffer}
+use Rattle.std.specs.Prelude.{◌≡◌, ℕ, ◌<◌, ◌≤◌, ◌⊎◌, Bool, true, false, not, ◌&&◌, List, ◌∷◌, ◌++◌, [], map, length, None, Result, Ok, Err}
 use Rattle.limits.specs.declared.profile.TheConstants.{BUFFER_BYTES}
-use Rattle.ring_model.specs.receive.Agreement.{rx_word}
 use Rattle.ring_model.specs.shared.Frames.{Bytes, cut, frames, piece_count, HasFrameLength}
 use Rattle.ring_model.specs.shared.Handshakes.{is_serving}
 use Rattle.ring_model.specs.shared.Segments.{Segment, piece_of}
-use Rattle.shared_ring.specs.declared.events.ControllerEvent.TheVariants.{Fetched, StoredHead, Own}
-use Rattle.rx_ring.specs.declared.events.RxControllerOwn.TheVariants.{WroteBack, SaidQuiet}
+use Rattle.shared_ring.specs.declared.events.ControllerEvent.TheVariants.{StoredHead, Own}
+use Rattle.rx_ring.specs.declared.events.RxControllerOwn.TheVariants.{SaidQuiet}
 use Rattle.rx_ring.specs.Ends.{ControllerSide, controller_size, controller_record, controller_state, stored, known_free, held, is_quiet, is_at_frame_end, head_stored, serve_place, controller_grown}
-use Rattle.rx_ring.specs.Calls.{FoundFree}
+use Rattle.rx_ring.specs.Calls.{FoundFree, StoredSegment}
 use Rattle.refusals.specs.declared.errors.CtlError.{CtlError}
 use Rattle.refusals.specs.declared.errors.CtlError.TheVariants.{FrameLength, Memory}
 use Rattle.controller.specs.declared.offer.Offer.{Offer}
@@ -40,12 +38,6 @@ may_store c = is_serving (controller_state c) && not (is_quiet c)
 -- The number of descriptors that a frame needs.
 abbrev pub needed : Receiving → Bytes → ℕ
 needed r f = piece_count r.bsize (length f)
-
--- A4 and A5: the next descriptor was fetched as 0, and its buffer written back with the segment's bytes.
-pub record StoredSegment (old : ControllerSide) (s : Segment Bytes) (new : ControllerSide) : Type 0 where
-  pub step : new ≡ controller_grown (controller_grown old (Fetched (serve_place old) 0 (buffer s.number [])))
-      (Own (WroteBack (serve_place old) (rx_word (length s.payload) s.eop) (buffer s.number s.payload)))
-  pub grew : controller_record new ≡ record (controller_record old) { completed = stored old ++ s ∷ []; held = None }
 
 -- At least `count` descriptors are known to be free.
 pub record KnewRoom (old : ControllerSide) (count : ℕ) (new : ControllerSide) : Type 0 where

@@ -1,5 +1,6 @@
 -- Sending a frame: the effects of the parts of a turn on the end and the arena.
 use Rattle.std.specs.Prelude.{◌≡◌, ℕ, ◌+◌, ◌<◌, ◌≤◌, ◌⊎◌, Bool, true, false, [], ◌∷◌, ◌++◌, length, take, drop, Option, Some, None}
+use Rattle.descriptor.specs.Transmit.{paylen_of}
 use Rattle.limits.specs.declared.profile.TheConstants.{MOST_FRAME}
 use Rattle.ring_model.specs.shared.Frames.{Bytes, join, unfinished}
 use Rattle.ring_model.specs.shared.Handshakes.{is_serving}
@@ -32,14 +33,19 @@ pub record SentNext (old : ControllerSide) (p : Posting) (ends : Bool) (new : Co
   pub head : head_stored new ≡ serve_place new
   pub ready : ends ≡ false → 1 < known_ready old
 
+-- The bytes were added to those of an unfinished frame on the wire.
+pub record Appended (bytes : Bytes) (arena arena' : Laid) : Type 0 where
+  pub frames : arena'.frames ≡ arena.frames
+  pub begun : arena'.begun ≡ arena.begun ++ bytes
+  pub room : arena.room ≤ arena'.room + length bytes
+  pub entries : arena'.entries ≡ arena.entries
+
 -- A segment was sent, and its bytes added to those of its frame on the wire.
 pub record SentBytes (old : ControllerSide) (arena : Laid) (ends : Bool) (new : ControllerSide) (arena' : Laid) : Type 0 where
   pub posting : Posting
   pub went : SentNext old posting ends new
-  pub frames : arena'.frames ≡ arena.frames
-  pub begun : arena'.begun ≡ arena.begun ++ posting.payload
-  pub room : arena.room ≤ arena'.room + length posting.payload
-  pub entries : arena'.entries ≡ arena.entries
+  pub appended : Appended posting.payload arena arena'
+  pub open appended use *
 
 -- The next frame was sent, and is one more on the wire.
 pub record SentOn (old : ControllerSide) (arena : Laid) (new : ControllerSide) (arena' : Laid) : Type 0 where
@@ -62,15 +68,18 @@ pub record PutInRoom (bytes room : Bytes) (at : ℕ) (arena : Laid) (room' : Byt
 pub record PutOnWire (bytes room : Bytes) (at : ℕ) (arena : Laid) (room' : Bytes) (past : ℕ) (arena' : Laid) : Type 0 where
   pub past_is : past ≡ at
   pub kept : room' ≡ room
-  pub frames : arena'.frames ≡ arena.frames
-  pub begun : arena'.begun ≡ arena.begun ++ bytes
-  pub room_left : arena.room ≤ arena'.room + length bytes
-  pub entries : arena'.entries ≡ arena.entries
+  pub appended : Appended bytes arena arena'
+  pub open appended use *
 
 -- The bytes of a segment, whose frame has `len` bytes, are added to those of its frame: in the room if the frame fits
 -- there, otherwise on the wire.
 abbrev pub Put : ℕ → Bytes → Bytes → ℕ → Laid → Bytes → ℕ → Laid → Type 0
 Put len bytes room at arena room' past arena' = ((len ≤ length room) × PutInRoom bytes room at arena room' past arena') ⊎ ((length room < len) × PutOnWire bytes room at arena room' past arena')
+
+-- There is room for the bytes of a segment with this word.
+pub record MayPut (word : ℕ) (bytes room : Bytes) (at : ℕ) (arena : Laid) : Type 0 where
+  pub in_room : paylen_of word ≤ length room → at + length bytes ≤ length room
+  pub on_wire : length room < paylen_of word → length bytes ≤ arena.room
 
 -- The next segment is ready, and there is room for it after the earlier segments of its frame.
 pub record CanPut (end : ControllerSide) (room : Bytes) (at : ℕ) (arena : Laid) : Type 0 where

@@ -1,15 +1,10 @@
 -- Storing a frame: the effects of the parts of an offer on the end alone.
-use Rattle.std.specs.Prelude.{◌≡◌, ℕ, ◌<◌, ◌≤◌, ◌⊎◌, Bool, true, false, length}
+use Rattle.std.specs.Prelude.{◌≡◌, ℕ, ◌<◌, ◌≤◌, ◌⊎◌, true, false, length}
 use Rattle.ring_model.specs.shared.Frames.{Bytes, piece_count}
 use Rattle.rx_ring.specs.Ends.{ControllerSide, controller_size}
 use Rattle.controller.specs.declared.offer.Offer.{Offer}
 use Rattle.controller.specs.declared.offer.Offer.TheVariants.{Off, Oversize, Stored}
-use Rattle.controller.specs.Receiving.{may_store, KnewRoom, FoundRoom, FoundNoRoom, StoredFrame, StoredSegment}
-
--- A segment with these bytes was stored.
-pub record StoredBytes (old : ControllerSide) (bytes : Bytes) (eop : Bool) (new : ControllerSide) : Type 0 where
-  pub number : ℕ
-  pub stored : StoredSegment old (record { number = number; payload = bytes; eop = eop }) new
+use Rattle.controller.specs.Receiving.{may_store, KnewRoom, FoundRoom, FoundNoRoom, StoredFrame}
 
 -- The end is off.
 pub record FoundOff (old : ControllerSide) (offer : Offer) (new : ControllerSide) : Type 0 where

@@ -7,7 +7,8 @@ ghost use Rattle.controller.specs.Sending.{CanSend, SentBytes, SentOn};
 ghost use Rattle.controller.specs.Transmitting.{IsIdle, reported};
 
 use crate::arena::Arena;
-use tx_ring::{TxControllerEnd, TxRing};
+use buffer_pool::Buf;
+use tx_ring::{Sink, TxControllerEnd, TxRing};
 
 /// Sends the next frame, which is ready, onto the wire, and reports it if it asks for a report.
 #[inline]
@@ -36,10 +37,21 @@ fn send_segment(ring: &TxRing, end: &mut TxControllerEnd, arena: &mut Arena) -> 
     requires can { CanSend end.old arena.old }
     ensures { SentBytes end.old arena.old result end.new arena.new }
 {
-    let (buf, read) = end.fetch(ring);
-    arena.append(buf.bytes());
-    end.give_back(ring, buf);
-    read.eop
+    end.send(ring, arena)
+}
+
+impl Sink for Arena {
+    ghost use Rattle.std.specs.Prelude.{◌≤◌, length};
+    ghost use Rattle.controller.specs.Sending.{Appended};
+
+    ghost may = { λ arena word buf. length buf.bytes ≤ arena.room };
+
+    ghost took = { λ arena word buf arena'. Appended buf.bytes arena arena' };
+
+    #[inline]
+    fn take(&mut self, _word: u64, buf: &Buf) {
+        self.append(buf.bytes());
+    }
 }
 
 /// Reports what was sent last, if that is owed.

@@ -10,8 +10,10 @@ use crate::arena::Arena;
 use crate::sending::settle;
 use crate::transmitting::TxController;
 use crate::wire::Wire;
+use buffer_pool::Buf;
+use descriptor::TxRead;
 use refusals::CtlError;
-use tx_ring::{ControllerEnd, TxControllerEnd, TxRing};
+use tx_ring::{ControllerEnd, Sink, TxControllerEnd, TxRing};
 
 /// The outcome of a turn into a room of bytes.
 #[derive(Clone, Copy, Debug, PartialEq, Eq)]
@@ -77,10 +79,9 @@ pub(crate) fn send_frame_into(
     ensures seen { seen end.new ≡ seen end.old }
     ensures idle { IsIdle end.new }
 {
-    let mut past = 0;
-    let mut ends = put_segment(ring, end, room, &mut past, arena);
+    let (mut ends, mut past) = put_segment(ring, end, room, 0, arena);
     while !ends {
-        ends = put_later(ring, end, room, &mut past, arena);
+        (ends, past) = put_later(ring, end, room, past, arena);
     }
     settle(ring, end);
     // No frame is empty, so nothing was put into the room.
@@ -91,23 +92,23 @@ pub(crate) fn send_frame_into(
     Some(past)
 }
 
-/// Sends the next segment, whose place in the room begins at `past`, and returns whether it ends its frame.
+/// Sends the next segment, whose bytes go into the room at `past` if its frame fits there. Returns whether it ends its
+/// frame, and where its bytes end.
 #[inline(always)]
 fn put_segment(
     ring: &TxRing,
     end: &mut TxControllerEnd,
     room: &mut [u8],
-    past: &mut usize,
+    past: usize,
     arena: &mut Arena,
-) -> bool
+) -> (bool, usize)
     requires own { end.old.table ≡ ring.now }
-    requires can { CanPut end.old room.old past.old arena.old }
-    ensures { SentPut end.old room.old past.old arena.old result end.new room.new past.new arena.new }
+    requires can { CanPut end.old room.old past arena.old }
+    ensures { SentPut end.old room.old past arena.old result.0 end.new room.new result.1 arena.new }
 {
-    let (buf, read) = end.fetch(ring);
-    *past = put(room, *past, arena, buf.bytes(), usize::from(read.paylen));
-    end.give_back(ring, buf);
-    read.eop
+    let mut putting = Putting { room, past, arena };
+    let ends = end.send(ring, &mut putting);
+    (ends, putting.past)
 }
 
 /// The same, out of line: most frames are of one segment.
@@ -116,14 +117,38 @@ fn put_later(
     ring: &TxRing,
     end: &mut TxControllerEnd,
     room: &mut [u8],
-    past: &mut usize,
+    past: usize,
     arena: &mut Arena,
-) -> bool
+) -> (bool, usize)
     requires own { end.old.table ≡ ring.now }
-    requires can { CanPut end.old room.old past.old arena.old }
-    ensures { SentPut end.old room.old past.old arena.old result end.new room.new past.new arena.new }
+    requires can { CanPut end.old room.old past arena.old }
+    ensures { SentPut end.old room.old past arena.old result.0 end.new room.new result.1 arena.new }
 {
     put_segment(ring, end, room, past, arena)
+}
+
+/// What takes the bytes of a frame's segments: the room if the frame fits there, otherwise the wire.
+#[derive(Drop)]
+struct Putting<'a> {
+    room: &'a mut [u8],
+    // where the bytes in the room end
+    past: usize,
+    arena: &'a mut Arena,
+}
+
+impl Sink for Putting<'_> {
+    ghost use Rattle.controller.specs.Sending.{MayPut};
+    ghost use Rattle.controller.specs.Puttings.{HasPut};
+
+    ghost may = { λ p word buf. MayPut word buf.bytes p.room.now p.past p.arena.now };
+
+    ghost took = { λ p word buf p'. HasPut word buf.bytes p p' };
+
+    #[inline]
+    fn take(&mut self, word: u64, buf: &Buf) {
+        let len = TxRead::frame_len(word) as usize;
+        self.past = put(self.room, self.past, self.arena, buf.bytes(), len);
+    }
 }
 
 /// Adds the bytes of a segment to those of its frame, which has `len` bytes: in `room` from `at` on if the frame fits

@@ -1,12 +1,11 @@
 //! Storing a frame.
-ghost use Rattle.std.specs.Prelude.{◌≡◌, ◌<◌, ◌≤◌, true, false, length, None};
+ghost use Rattle.std.specs.Prelude.{◌≡◌, ◌<◌, ◌≤◌, true, false, length};
 ghost use Rattle.limits.specs.declared.profile.TheConstants.{BUFFER_BYTES, MOST_FRAME};
-ghost use Rattle.ring_model.specs.shared.Frames.{Follows, HasFrameLength, piece_count, unfinished};
+ghost use Rattle.ring_model.specs.shared.Frames.{HasFrameLength, piece_count};
 ghost use Rattle.ring_model.specs.shared.Handshakes.{is_serving};
-ghost use Rattle.ring_model.specs.shared.Segments.{piece_of};
-ghost use Rattle.rx_ring.specs.Ends.{controller_size, controller_state, stored, known_free, held, seen, is_quiet};
+ghost use Rattle.rx_ring.specs.Ends.{controller_size, controller_state, known_free, seen, is_quiet};
 ghost use Rattle.controller.specs.Receiving.{IsIdle, StoredFrame};
-ghost use Rattle.controller.specs.Storing.{Decided, StoredBytes};
+ghost use Rattle.controller.specs.Storing.{Decided};
 
 use crate::offer::Offer;
 use rx_ring::{ControllerEnd, RxControllerEnd, RxRing};
@@ -80,25 +79,9 @@ fn store_frame(ring: &RxRing, end: &mut RxControllerEnd, bsize: usize, frame: &[
     let mut rest = frame;
     while bsize < rest.len() {
         let (piece, more) = rest.split_at(bsize);
-        store_piece(ring, end, piece, false);
+        end.store(ring, piece, false);
         rest = more;
     }
-    store_piece(ring, end, rest, true);
+    end.store(ring, rest, true);
     end.set_head(ring);
-}
-
-/// Stores a piece of a frame in the next descriptor.
-#[inline]
-fn store_piece(ring: &RxRing, end: &mut RxControllerEnd, bytes: &[u8], eop: bool)
-    requires own { end.old.table ≡ ring.now }
-    requires serving { is_serving (controller_state end.old) ≡ true }
-    requires quiet { is_quiet end.old ≡ false }
-    requires held { held end.old ≡ None }
-    requires free { 0 < known_free end.old }
-    requires follows { Follows piece_of (controller_size end.old) (unfinished piece_of (stored end.old)) bytes.now eop }
-    ensures { StoredBytes end.old bytes.now eop end.new }
-{
-    let mut buf = end.fetch(ring);
-    buf.fill(bytes);
-    end.write_back(ring, buf, eop);
 }

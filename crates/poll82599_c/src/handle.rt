@@ -2,6 +2,8 @@
 ghost use Rattle.std.specs.Prelude.{◌≡◌, ◌≢◌, ◌⊎◌, true, false, Option, Some, None, IfNone, IfSome, MatchOption};
 ghost use Rattle.poll82599_c.specs.declared.end.End.{End as Held};
 
+mod lending;
+
 use crate::end::End;
 use ffi_handle::Parts;
 use std::alloc::Global;
@@ -73,17 +75,14 @@ impl Handle {
     }
 
     /// Whether the handle holds no object.
-    pub(crate) fn is_empty(&mut self, alloc: Global) -> bool
+    pub(crate) fn is_empty(&mut self) -> bool
         ensures empty { result ≡ true → self.old.held ≡ None }
         ensures in_use { result ≡ false → self.old.held ≢ None }
         ensures kept { self.new.held ≡ self.old.held }
     {
-        match self.take(alloc) {
+        match self.lent() {
             None => true,
-            Some(object) => {
-                self.put(object);
-                false
-            }
+            Some(_) => false,
         }
     }
 

@@ -7,4 +7,5 @@ pub mod Meeting
 pub mod DriverEnds
 pub mod DriverCalls
 pub mod ControllerEnds
+pub mod InPlace
 pub mod Closing

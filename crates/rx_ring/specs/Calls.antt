@@ -9,10 +9,11 @@ use Rattle.shared_ring.specs.declared.events.DriverEvent.TheVariants as driver
 use Rattle.shared_ring.specs.declared.events.ControllerEvent.TheVariants as controller
 use Rattle.shared_ring.specs.Records.{undriven}
 use Rattle.rx_ring.specs.declared.events.RxDriverOwn.TheVariants.{NotDone, Taken, ClearedQuiet}
+use Rattle.rx_ring.specs.declared.events.RxControllerOwn.TheVariants.{WroteBack}
 use Rattle.rx_ring.specs.declared.driver.Poll.{Poll}
 use Rattle.rx_ring.specs.declared.driver.Poll.TheVariants as poll
 use Rattle.rx_ring.specs.Records.{RxDriven, RxControlled, Knowing, unknown}
-use Rattle.rx_ring.specs.Ends.{DriverSide, driver_size, driver_record, posted, taken, reclaimed, returned, driver_state, known_of, saw_quiet, is_drained, next_place, driver_grown, ControllerSide, controller_size, controller_record, serve_place, controller_grown}
+use Rattle.rx_ring.specs.Ends.{DriverSide, driver_size, driver_record, posted, taken, reclaimed, returned, driver_state, known_of, saw_quiet, is_drained, next_place, driver_grown, ControllerSide, controller_size, controller_record, stored, serve_place, controller_grown}
 pub use Rattle.shared_ring.specs.Meeting.{IsTold}
 use Rattle.rx_ring.specs.Meeting.{left_by}
 pub use Rattle.shared_ring.specs.Calls.{IsFreshDriver, IsFreshController, NoneOut, FoundAhead as FoundFree, MayEnable, IsSettled, MayDisable, MayAnswer, AnsweredEnabling, AnsweredDisabling, Answered}
@@ -118,6 +119,17 @@ pub record Fetched (old : ControllerSide) (buf : Buffer) (new : ControllerSide) 
   pub step : new ≡ controller_grown old (controller.Fetched (serve_place old) 0 buf)
   pub empty : buf ≡ buffer buf.number []
   pub same : controller_record new ≡ record (controller_record old) { held = Some buf }
+
+-- A4 and A5: the next descriptor was fetched as 0, and its buffer written back with the segment's bytes.
+pub record StoredSegment (old : ControllerSide) (s : Segment Bytes) (new : ControllerSide) : Type 0 where
+  pub step : new ≡ controller_grown (controller_grown old (controller.Fetched (serve_place old) 0 (buffer s.number [])))
+      (controller.Own (WroteBack (serve_place old) (rx_word (length s.payload) s.eop) (buffer s.number s.payload)))
+  pub grew : controller_record new ≡ record (controller_record old) { completed = stored old ++ s ∷ []; held = None }
+
+-- A segment with these bytes was stored.
+pub record StoredBytes (old : ControllerSide) (bytes : Bytes) (eop : Bool) (new : ControllerSide) : Type 0 where
+  pub number : ℕ
+  pub stored_as : StoredSegment old (record { number = number; payload = bytes; eop = eop }) new
 
 -- The fields of a controller's end agree with its record.
 pub record IsServerOf (n : ℕ) (x : RxControlled) (at : ControllerPlaces) (head : ℕ) (finished : Bool) : Type 0 where

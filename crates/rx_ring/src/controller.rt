@@ -11,7 +11,7 @@ ghost use Rattle.rx_ring.specs.declared.events.RxControllerOwn.TheVariants.{Wrot
 ghost use Rattle.rx_ring.specs.Ends.{controller_size, controller_record, stored, known_free, held, held_number, controller_state, is_quiet, is_at_frame_end, serve_place, controller_grown};
 ghost use Rattle.shared_ring.specs.Ends.{controller_of, controller_side};
 ghost use Rattle.rx_ring.specs.Form.{rx};
-ghost use Rattle.rx_ring.specs.Calls.{IsFreshController, Fetched, segment};
+ghost use Rattle.rx_ring.specs.Calls.{IsFreshController, Fetched, StoredBytes, segment};
 
 use crate::direction::{RxControllerSeat, RxRule};
 use crate::events::{RxControllerOwn, RxDriverOwn};
@@ -101,6 +101,24 @@ impl RxControllerEnd {
         self.at.serve = place_after(self.at.serve, self.at.size);
         self.at.available -= 1;
         self.at.holding = false;
+        self.at.at_frame_end = eop;
+    }
+
+    /// Stores a segment in the next descriptor: `fetch`, a filling of the buffer, and `write_back` in one call. The buffer
+    /// stays in its slot, which is faster. The bytes must be allowed after the frame's segments so far.
+    #[inline]
+    pub fn store(&mut self, ring: &RxRing, bytes: &[u8], eop: bool)
+        requires own { self.old.table ≡ ring.now }
+        requires serving { is_serving (controller_state self.old) ≡ true }
+        requires free { 0 < known_free self.old }
+        requires held { held self.old ≡ None }
+        requires quiet { is_quiet self.old ≡ false }
+        requires follows { Follows piece_of (controller_size self.old) (unfinished piece_of (stored self.old)) bytes.now eop }
+        ensures { StoredBytes self.old bytes.now eop self.new }
+    {
+        steps::store(&mut self.seat, &ring.0, self.at.serve, bytes, eop);
+        self.at.serve = place_after(self.at.serve, self.at.size);
+        self.at.available -= 1;
         self.at.at_frame_end = eop;
     }
 

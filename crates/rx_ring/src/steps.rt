@@ -3,5 +3,5 @@
 mod controller;
 mod driver;
 
-pub(crate) use controller::{HeadStore, say_quiet, write_back};
+pub(crate) use controller::{HeadStore, say_quiet, store, write_back};
 pub(crate) use driver::{clear_quiet, load_quiet, take};

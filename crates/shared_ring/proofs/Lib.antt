@@ -11,6 +11,7 @@ pub mod SeatRules
 pub mod DriverSeats
 pub mod Reclaiming
 pub mod ControllerSeats
+pub mod InPlace
 pub mod Gathering
 pub mod Gathered
 pub mod Meeting

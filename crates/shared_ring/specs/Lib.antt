@@ -7,6 +7,7 @@ pub mod Forms
 pub mod Ends
 pub mod Directions
 pub mod Own
+pub mod InPlace
 pub mod Registers
 pub mod LaidOut
 pub mod Tables

@@ -31,4 +31,4 @@ pub use events::{ControllerEvent, DriverEvent, View};
 pub use plays::EndEvent;
 pub use refusals::RingError;
 pub use registers::{CONTROL, QUIET, REPORT, TAIL};
-pub use steps::{ControllerSeat, DriverSeat, EndSeat, Ring, Rule};
+pub use steps::{ControllerSeat, DriverSeat, EndSeat, Ring, Rule, Sink};

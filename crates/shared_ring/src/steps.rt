@@ -7,6 +7,7 @@ mod closing;
 mod controller;
 mod driver;
 mod gathering;
+mod in_place;
 mod own;
 
 use crate::direction::Direction;
@@ -14,6 +15,7 @@ use crate::events::{ControllerEvent, DriverEvent, View};
 use crate::plays::EndEvent;
 use atomic_table::{Seat, Table, TableRule};
 use buffer_pool::Buf;
+pub use in_place::Sink;
 use ring_model::Completion;
 use std::alloc::Global;
 use std::marker::{Model, PhantomData};

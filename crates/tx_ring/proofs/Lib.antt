@@ -9,6 +9,7 @@ pub mod Owning
 pub mod Looking
 pub mod Meeting
 pub mod ControllerEnds
+pub mod InPlace
 pub mod Passed
 pub mod DriverEnds
 pub mod DriverCalls

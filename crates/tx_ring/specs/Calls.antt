@@ -14,7 +14,8 @@ use Rattle.ring_model.specs.transmit.Steps.{asks_report}
 use Rattle.shared_ring.specs.declared.events.DriverEvent.TheVariants as driver
 use Rattle.shared_ring.specs.declared.events.ControllerEvent.TheVariants as controller
 use Rattle.tx_ring.specs.declared.events.TxControllerOwn.{TxControllerOwn}
-use Rattle.tx_ring.specs.declared.events.TxControllerOwn.TheVariants.{Reported}
+use Rattle.tx_ring.specs.declared.events.TxControllerOwn.TheVariants.{Sent, Reported}
+use Rattle.tx_ring.specs.Form.{IsFetchedAs}
 use Rattle.tx_ring.specs.Meeting.{told_left}
 use Rattle.tx_ring.specs.Rule.{filled}
 use Rattle.tx_ring.specs.Steps.{Looked}
@@ -45,6 +46,20 @@ pub record Fetched (old : ControllerSide) (buf : Buffer) (read : TxRead) (new : 
   pub ready : read.eop ≡ false → 1 < known_ready old
   pub same : controller_record new ≡ record (controller_record old) { held = Some buf }
   pub held_is : held_word new ≡ word
+
+-- The sink may take whatever is fetched next.
+pub record CanTake {S : Type 0} (may : S → ℕ → Buffer → Type 0) (end : ControllerSide) (sink : S) : Type 0 where
+  pub takes : (word : ℕ) (buf : Buffer) → IsFetchedAs (controller_size end) (controller_record end) word buf → may sink word buf
+
+-- B4 and B5: the next descriptor was fetched, the sink took its buffer, and its posting was sent.
+pub record SentTo {S : Type 0} (took : S → ℕ → Buffer → S → Type 0) (old : ControllerSide) (sink : S) (ends : Bool) (new : ControllerSide) (sink' : S) : Type 0 where
+  pub word : ℕ
+  pub buf : Buffer
+  pub fetched : IsFetchedAs (controller_size old) (controller_record old) word buf
+  pub taken : took sink word buf sink'
+  pub ends_is : ends ≡ eop_of word
+  pub step : new ≡ controller_grown (controller_grown old (controller.Fetched (serve_place old) word buf)) (controller.Own (Sent ((length (sent old) + 1) % controller_size old) word buf))
+  pub grew : controller_record new ≡ record (controller_record old) { completed = sent old ++ posting_of word buf ∷ []; held = None; head = (length (sent old) + 1) % controller_size old; barred = rs_of word }
 
 -- B6, for the item that was sent last.
 abbrev pub report_of : ℕ → Completion → ℕ → TxControllerOwn

@@ -9,7 +9,7 @@ ghost use Rattle.tx_ring.specs.Records.{posting_of};
 ghost use Rattle.shared_ring.specs.Ends.{controller_of, controller_side};
 ghost use Rattle.tx_ring.specs.Form.{tx};
 ghost use Rattle.tx_ring.specs.Ends.{controller_size, controller_record, sent, known_ready, held, held_word, controller_state, is_owed, controller_grown};
-ghost use Rattle.tx_ring.specs.Calls.{IsFreshController, Fetched, report_of};
+ghost use Rattle.tx_ring.specs.Calls.{IsFreshController, Fetched, CanTake, SentTo, report_of};
 
 use crate::direction::{TxControllerSeat, TxRule};
 use crate::events::{TxControllerOwn, TxDriverOwn};
@@ -18,7 +18,7 @@ use crate::steps;
 use buffer_pool::Buf;
 use descriptor::TxRead;
 use ring_model::place_after;
-use shared_ring::{ControllerEnd, ControllerLoad, ControllerPlaces};
+use shared_ring::{ControllerEnd, ControllerLoad, ControllerPlaces, Sink};
 use std::marker::Model;
 
 /// The controller's end of a transmit ring. Contracts see the ring's identity and the record of the end's own steps.
@@ -118,6 +118,29 @@ impl TxControllerEnd {
         self.at.holding = false;
         self.at.at_frame_end = self.ends;
         self.owed = self.asks;
+    }
+
+    /// Sends the next segment: `fetch`, a taking of the buffer's bytes by `sink`, and `give_back` in one call. The buffer
+    /// stays in its slot, which is faster. Returns whether the segment ends its frame.
+    #[inline]
+    pub fn send<S: Sink>(&mut self, ring: &TxRing, sink: &mut S) -> bool
+        requires own { self.old.table ≡ ring.now }
+        requires serving { is_serving (controller_state self.old) ≡ true }
+        requires ready { 0 < known_ready self.old }
+        requires held { held self.old ≡ None }
+        requires paid { is_owed self.old ≡ false }
+        requires takes { CanTake S.may self.old sink.old }
+        ensures { SentTo S.took self.old sink.old result self.new sink.new }
+    {
+        let head = place_after(self.at.serve, self.at.size);
+        let word = steps::send_next(&mut self.seat, &ring.0, self.at.serve, head, sink);
+        let ends = TxRead::ends_frame(word);
+        self.last = self.at.serve;
+        self.at.serve = head;
+        self.at.available -= 1;
+        self.at.at_frame_end = ends;
+        self.owed = TxRead::asks_report(word);
+        ends
     }
 
     /// Whether the last sent segment asked for a report that is not made yet.

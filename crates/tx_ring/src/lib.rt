@@ -37,5 +37,5 @@ pub use ring::TxRing;
 pub use ring_model::Completion;
 pub use shared_ring::{
     Control, ControllerEnd, ControllerEvent, ControllerLoad, ControllerPlaces, DriverEnd,
-    DriverEvent, DriverPlaces, HandshakeStep, RingError, SharedRing, View,
+    DriverEvent, DriverPlaces, HandshakeStep, RingError, SharedRing, Sink, View,
 };

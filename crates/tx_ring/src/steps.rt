@@ -3,5 +3,5 @@
 mod controller;
 mod driver;
 
-pub(crate) use controller::{report_head, report_status, send};
+pub(crate) use controller::{report_head, report_status, send, send_next};
 pub(crate) use driver::{clean, find_report, go_over, post};

@@ -1,5 +1,6 @@
 //! The loops of a receive batch.
-ghost use Rattle.std.specs.Prelude.{◌≡◌, ◌+◌, ◌<◌, ◌≤◌, ◌++◌, true, length};
+ghost use Rattle.std.specs.Prelude.{◌≡◌, ◌+◌, ◌<◌, ◌≤◌, ◌∷◌, ◌++◌, [], true, length};
+ghost use Rattle.limits.specs.declared.profile.TheConstants.{MOST_SEGMENTS};
 ghost use Rattle.ring_model.specs.shared.Handshakes.{is_live, is_open};
 ghost use Rattle.rx_ring.specs.Ends.{driver_size, driver_state, posted, returned};
 ghost use Rattle.driver.specs.receive.Chains.{IsRest};
@@ -7,7 +8,7 @@ ghost use Rattle.driver.specs.receive.Exchanges.{posting, in_place, PolledAll, I
 ghost use Rattle.driver.specs.receive.Batches.{at, Polled, Stopped, batch_of, Filled};
 
 use arrayvec::ArrayVec;
-use buffer_pool::{Packet, Stash};
+use buffer_pool::{Buf, Packet, Stash};
 use limits::MOST_BATCH;
 use rx_ring::{DriverEnd, Poll, RxDriverEnd, RxRing};
 use std::mem;
@@ -37,13 +38,31 @@ pub(super) fn take(
             break;
         };
         post_one(driver, ring, stash);
-        chain.push_back(buf);
         if eop {
-            packets.push(mem::take(chain));
+            packets.push(ended(chain, buf));
             count += 1;
+        } else {
+            chain.push_back(buf);
         }
     }
     count
+}
+
+/// Returns the packet whose last segment is in this buffer. Most packets have no other, and do not touch the chain.
+#[inline]
+fn ended(chain: &mut Packet, buf: Buf) -> Packet
+    requires some_bytes { 0 < length buf.bytes }
+    requires few { length chain.old < MOST_SEGMENTS }
+    ensures packet { result ≡ chain.old ++ buf ∷ [] }
+    ensures left { chain.new ≡ [] }
+{
+    if chain.segments() > 0 {
+        chain.push_back(buf);
+        return mem::take(chain);
+    }
+    let mut packet = Packet::default();
+    packet.push_back(buf);
+    packet
 }
 
 /// Posts a buffer of the stash, if it has one and no disabling was asked.

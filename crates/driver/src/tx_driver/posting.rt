@@ -58,8 +58,31 @@ fn first_of(packet: &mut Packet) -> Buf
     buf
 }
 
-/// Posts the buffers of a packet in order. The last one ends the frame, and asks for a report if `rs` is set.
+/// Posts the buffers of a packet in order. The last one ends the frame, and asks for a report if `rs` is set. Most
+/// packets have only one.
+#[inline]
 fn post_frame(driver: &mut TxDriverEnd, ring: &TxRing, mut packet: Packet, rs: bool)
+    requires own { driver.old.table ≡ ring.now }
+    requires open { is_open (driver_state driver.old) ≡ true }
+    requires whole { unfinished carried (posted driver.old) ≡ [] }
+    requires packet { IsPacket packet }
+    requires short { length packet < driver_size driver.old }
+    requires room { length (posted driver.old) + length packet < returned driver.old + driver_size driver.old }
+    ensures went { PostedAll driver.old (frame_of rs packet) driver.new }
+    ensures whole { are_whole (posted driver.new) ≡ true }
+{
+    if packet.segments() > 1 {
+        post_segments(driver, ring, packet, rs);
+        return;
+    }
+    let paylen = packet.len() as u16;
+    let only = first_of(&mut packet);
+    driver.post(ring, only, true, rs, paylen);
+}
+
+/// The same, out of line.
+#[inline(never)]
+fn post_segments(driver: &mut TxDriverEnd, ring: &TxRing, mut packet: Packet, rs: bool)
     requires own { driver.old.table ≡ ring.now }
     requires open { is_open (driver_state driver.old) ≡ true }
     requires whole { unfinished carried (posted driver.old) ≡ [] }

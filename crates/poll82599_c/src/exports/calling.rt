@@ -23,7 +23,6 @@ use crate::handle::Handle;
 use crate::rings::Asking;
 use ffi_handle::is_set;
 use shared_ring::HandshakeStep;
-use std::alloc::Global;
 
 /// Steps a receive ring's driver. The driver's thread calls it. The operations:
 /// - 0 posts an empty buffer. 0: no free descriptor or buffer, or a disabling was asked for.
@@ -38,7 +37,6 @@ use std::alloc::Global;
 /// - 9 counts in `len` the segments left in a disabled ring. 0: a buffer was taken out; 2: it was not seen disabled.
 #[unsafe(no_mangle)]
 pub extern "C" fn poll82599_rx_drive(
-    alloc: Global,
     driver: &mut Handle,
     call: &mut Poll82599Call,
     bytes: &mut [u8],
@@ -49,7 +47,7 @@ pub extern "C" fn poll82599_rx_drive(
     ensures room { (call.old.operation ≢ 2) → bytes.new ≡ bytes.old }
     ensures kept { (9 < call.old.operation) → driver.new.held ≡ driver.old.held }
 {
-    step_call!(alloc, driver, call, RxDriver(receiving) => match call.operation {
+    step_call!(driver, call, RxDriver(receiving) => match call.operation {
         0 => receiving.post(),
         1 => receiving.publish(),
         2 => {
@@ -82,18 +80,13 @@ pub extern "C" fn poll82599_rx_drive(
 /// - 6 cleans a descriptor that is seen reported, and takes its buffer back. 0: there is none.
 /// - 9 counts in `len` the segments not sent in a disabled ring. 2: it was not seen disabled.
 #[unsafe(no_mangle)]
-pub extern "C" fn poll82599_tx_drive(
-    alloc: Global,
-    driver: &mut Handle,
-    call: &mut Poll82599Call,
-    segment: &[u8],
-)
+pub extern "C" fn poll82599_tx_drive(driver: &mut Handle, call: &mut Poll82599Call, segment: &[u8])
     ensures other { as_tx_driver driver.old.held ≡ None → (call.new.answer ≡ 4294967295) × (driver.new.held ≡ driver.old.held) }
     ensures own { SameDriven (as_tx_driver driver.old.held) (as_tx_driver driver.new.held) }
     ensures step { Between (tx.Drove call.old.operation call.new.answer call.new.len segment.now (is_set call.old.eop) (is_set call.old.rs) call.old.paylen) (as_tx_driver driver.old.held) (as_tx_driver driver.new.held) }
     ensures kept { (9 < call.old.operation) → driver.new.held ≡ driver.old.held }
 {
-    step_call!(alloc, driver, call, TxDriver(sending) => match call.operation {
+    step_call!(driver, call, TxDriver(sending) => match call.operation {
         0 => {
             let ask = Asking {
                 eop: is_set(call.eop),
@@ -126,7 +119,6 @@ pub extern "C" fn poll82599_tx_drive(
 /// - 2 says that no more is stored. 0: the queue is off, or a frame is unfinished.
 #[unsafe(no_mangle)]
 pub extern "C" fn poll82599_rx_serve(
-    alloc: Global,
     controller: &mut Handle,
     call: &mut Poll82599Call,
     segment: &[u8],
@@ -136,7 +128,7 @@ pub extern "C" fn poll82599_rx_serve(
     ensures step { Between (rx.Served call.old.operation call.new.answer segment.now (is_set call.old.eop)) (as_rx_controller controller.old.held) (as_rx_controller controller.new.held) }
     ensures kept { (2 < call.old.operation) → controller.new.held ≡ controller.old.held }
 {
-    step_call!(alloc, controller, call, RxController(serving) => match call.operation {
+    step_call!(controller, call, RxController(serving) => match call.operation {
         0 => serving.answer(),
         1 => serving.store(segment, is_set(call.eop)),
         2 => serving.set_quiet(),
@@ -150,7 +142,6 @@ pub extern "C" fn poll82599_rx_serve(
 ///   off; 4: `bytes` is below 2,048.
 #[unsafe(no_mangle)]
 pub extern "C" fn poll82599_tx_serve(
-    alloc: Global,
     controller: &mut Handle,
     call: &mut Poll82599Call,
     bytes: &mut [u8],
@@ -161,7 +152,7 @@ pub extern "C" fn poll82599_tx_serve(
     ensures room { (call.old.operation ≢ 1) → bytes.new ≡ bytes.old }
     ensures kept { (1 < call.old.operation) → controller.new.held ≡ controller.old.held }
 {
-    step_call!(alloc, controller, call, TxController(serving) => match call.operation {
+    step_call!(controller, call, TxController(serving) => match call.operation {
         0 => serving.answer(),
         1 => {
             let found = serving.send(bytes);
@@ -182,17 +173,13 @@ pub extern "C" fn poll82599_tx_serve(
 /// - 3 renews a disabled queue. 0: it was not seen disabled, or a buffer is left in it.
 /// - 4 loads the quiet word and returns it, 0 or 1.
 #[unsafe(no_mangle)]
-pub extern "C" fn poll82599_rx_queue_do(
-    alloc: Global,
-    queue: &mut Handle,
-    call: &mut Poll82599Queue,
-)
+pub extern "C" fn poll82599_rx_queue_do(queue: &mut Handle, call: &mut Poll82599Queue)
     ensures other { as_rx_queue queue.old.held ≡ None → (call.new.answer ≡ 4294967295) × (queue.new.held ≡ queue.old.held) }
     ensures own { SameQueue receiver (as_rx_queue queue.old.held) (as_rx_queue queue.new.held) }
     ensures step { Between (rx_queue.Did call.old.operation call.new.answer call.new.count) (as_rx_queue queue.old.held) (as_rx_queue queue.new.held) }
     ensures kept { (4 < call.old.operation) → queue.new.held ≡ queue.old.held }
 {
-    step_call!(alloc, queue, call, RxQueue(receiving) => match call.operation {
+    step_call!(queue, call, RxQueue(receiving) => match call.operation {
         0 => receiving.enable(),
         1 => receiving.ask_disable(),
         2 => {
@@ -210,17 +197,13 @@ pub extern "C" fn poll82599_rx_queue_do(
 /// [`poll82599_rx_queue_do`], and
 /// - 4 counts in `count` the segments that were posted and have not come back.
 #[unsafe(no_mangle)]
-pub extern "C" fn poll82599_tx_queue_do(
-    alloc: Global,
-    queue: &mut Handle,
-    call: &mut Poll82599Queue,
-)
+pub extern "C" fn poll82599_tx_queue_do(queue: &mut Handle, call: &mut Poll82599Queue)
     ensures other { as_tx_queue queue.old.held ≡ None → (call.new.answer ≡ 4294967295) × (queue.new.held ≡ queue.old.held) }
     ensures own { SameQueue transmitter (as_tx_queue queue.old.held) (as_tx_queue queue.new.held) }
     ensures step { Between (tx_queue.Did call.old.operation call.new.answer call.new.count) (as_tx_queue queue.old.held) (as_tx_queue queue.new.held) }
     ensures kept { (3 < call.old.operation) → queue.new.held ≡ queue.old.held }
 {
-    step_call!(alloc, queue, call, TxQueue(sending) => match call.operation {
+    step_call!(queue, call, TxQueue(sending) => match call.operation {
         0 => sending.enable(),
         1 => sending.ask_disable(),
         2 => {

@@ -23,7 +23,7 @@ pub extern "C" fn poll82599_counters_new(alloc: Global, counters: &mut Handle) -
     ensures in_use { (result ≡ pos 5) → (counters.old.held ≢ None) × (counters.new.held ≡ counters.old.held) }
     ensures kept { (result ≢ pos 0) → (result ≢ pos 5) → counters.new ≡ counters.old }
 {
-    put_one(alloc, new_counters(alloc), counters)
+    put_one(new_counters(alloc), counters)
 }
 
 /// Makes a reader of counters, which knows all that was written to them. Returns 0: done; 2: memory was refused; 4: the
@@ -42,37 +42,27 @@ pub extern "C" fn poll82599_counters_reader(
     ensures same { counters.new.held ≡ counters.old.held }
 {
     let made = reader_of(alloc, counters);
-    put_one(alloc, made, reader)
+    put_one(made, reader)
 }
 
 /// Writes counter `at`. The thread of the handle that may write calls it. Returns 1: done; 0: `at` is not below 8, or the
 /// counter is above `number`.
 #[unsafe(no_mangle)]
-pub extern "C" fn poll82599_counters_set(
-    alloc: Global,
-    counters: &mut Handle,
-    at: usize,
-    number: u64,
-) -> u32
+pub extern "C" fn poll82599_counters_set(counters: &mut Handle, at: usize, number: u64) -> u32
     ensures other { as_counters counters.old.held ≡ None → (result ≡ 4294967295) × (counters.new.held ≡ counters.old.held) }
     ensures step { Between (TriedSet result at number) (as_counters counters.old.held) (as_counters counters.new.held) }
 {
-    step!(alloc, counters, Counters(held) => u32::from(held.set(at, number)))
+    step!(counters, Counters(held) => u32::from(held.set(at, number)))
 }
 
 /// Reads counter `at` into `number`. The reader's thread calls it. Returns 1: done; 0: `at` is not below 8.
 #[unsafe(no_mangle)]
-pub extern "C" fn poll82599_counters_get(
-    alloc: Global,
-    reader: &mut Handle,
-    at: usize,
-    number: &mut u64,
-) -> u32
+pub extern "C" fn poll82599_counters_get(reader: &mut Handle, at: usize, number: &mut u64) -> u32
     ensures other { as_counter_reader reader.old.held ≡ None → (result ≡ 4294967295) × (reader.new.held ≡ reader.old.held) }
     ensures step { Between (TriedGet result at number.new) (as_counter_reader reader.old.held) (as_counter_reader reader.new.held) }
     ensures kept { (result ≢ 1) → number.new ≡ number.old }
 {
-    step!(alloc, reader, CounterReader(held) => match held.get(at) {
+    step!(reader, CounterReader(held) => match held.get(at) {
         Some(found) => {
             *number = found;
             1
@@ -119,16 +109,14 @@ fn reader_of(alloc: Global, counters: &mut Handle) -> Result<Box<End>, Unmade>
     ensures other { IfErr result (λ e. e ≡ Unmade.Settings → as_counters counters.old.held ≡ None) }
     ensures same { counters.new.held ≡ counters.old.held }
 {
-    let Some(mut end) = counters.take(alloc) else {
+    let Some(end) = counters.lent() else {
         return Err(Unmade::Settings);
     };
-    let made = match &mut *end {
+    match end {
         End::Counters(held) => match held.reader() {
             Ok(reader) => boxed(alloc, End::CounterReader(reader)),
             Err(_) => Err(Unmade::Memory),
         },
         _ => Err(Unmade::Settings),
-    };
-    counters.put(end);
-    made
+    }
 }

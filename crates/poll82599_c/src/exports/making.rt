@@ -40,12 +40,7 @@ pub extern "C" fn poll82599_rx_new(
     ensures driver { (result ≢ pos 0) → (result ≢ pos 5) → driver.new ≡ driver.old }
     ensures controller { (result ≢ pos 0) → (result ≢ pos 5) → controller.new ≡ controller.old }
 {
-    put_both(
-        alloc,
-        rx_ends(alloc, descriptors, buffers),
-        driver,
-        controller,
-    )
+    put_both(rx_ends(alloc, descriptors, buffers), driver, controller)
 }
 
 /// Makes a transmit ring of `descriptors` descriptors: its driver with `buffers` empty buffers, and its controller. The
@@ -73,7 +68,7 @@ pub extern "C" fn poll82599_tx_new(
     ensures controller { (result ≢ pos 0) → (result ≢ pos 5) → controller.new ≡ controller.old }
 {
     let made = tx_ends(alloc, descriptors, buffers, completion_of(by_head));
-    put_both(alloc, made, driver, controller)
+    put_both(made, driver, controller)
 }
 
 /// Makes a receive queue of `descriptors` descriptors. Its driver takes up to `batch` packets at once. Its device fills
@@ -101,7 +96,6 @@ pub extern "C" fn poll82599_rx_queue_new(
     ensures device { (result ≢ pos 0) → (result ≢ pos 5) → device.new ≡ device.old }
 {
     put_both(
-        alloc,
         rx_queue(alloc, descriptors, batch, fill, is_set(drop_en)),
         queue,
         device,
@@ -134,7 +128,7 @@ pub extern "C" fn poll82599_tx_queue_new(
     ensures device { (result ≢ pos 0) → (result ≢ pos 5) → device.new ≡ device.old }
 {
     let made = tx_queue(alloc, descriptors, every, completion_of(by_head));
-    put_both(alloc, made, queue, device)
+    put_both(made, queue, device)
 }
 
 /// Makes a worker's packets: none, and `buffers` empty buffers. Returns 0: done; 2: memory was refused; 3: `buffers` is
@@ -147,7 +141,7 @@ pub extern "C" fn poll82599_packets_new(alloc: Global, buffers: u32, packets: &m
     ensures in_use { (result ≡ pos 5) → (packets.old.held ≢ None) × (packets.new.held ≡ packets.old.held) }
     ensures kept { (result ≢ pos 0) → (result ≢ pos 5) → packets.new ≡ packets.old }
 {
-    put_one(alloc, fresh_packets(alloc, buffers), packets)
+    put_one(fresh_packets(alloc, buffers), packets)
 }
 
 /// Makes a pool of `buffers` empty buffers. Returns 0: done; 2: memory was refused; 3: `buffers` is not 16 to 65,536; 5:
@@ -160,5 +154,5 @@ pub extern "C" fn poll82599_pool_new(alloc: Global, buffers: u32, pool: &mut Han
     ensures in_use { (result ≡ pos 5) → (pool.old.held ≢ None) × (pool.new.held ≡ pool.old.held) }
     ensures kept { (result ≢ pos 0) → (result ≢ pos 5) → pool.new ≡ pool.old }
 {
-    put_one(alloc, fresh_pool(alloc, buffers), pool)
+    put_one(fresh_pool(alloc, buffers), pool)
 }

@@ -13,14 +13,12 @@ ghost use Rattle.poll82599_c.specs.batches.Transmitting as tx_queue;
 use crate::batches::{BatchQueue, Found};
 use crate::call::NO_OPERATION;
 use crate::end::End;
-use crate::handle::{Handle, take_both};
-use std::alloc::Global;
+use crate::handle::Handle;
 
 /// Takes a batch of `count` packets from a receive queue, and posts `posted` empty buffers. 0: the queue was not seen on, or
 /// was seen off.
 #[unsafe(no_mangle)]
 pub extern "C" fn poll82599_rx_queue_batch(
-    alloc: Global,
     queue: &mut Handle,
     packets: &mut Handle,
     count: &mut usize,
@@ -32,7 +30,7 @@ pub extern "C" fn poll82599_rx_queue_batch(
     ensures buffers { Among (λ _ had _ has. MovedBuffers posted.new had has) (as_rx_queue queue.old.held) (as_packets packets.old.held) (as_rx_queue queue.new.held) (as_packets packets.new.held) }
 {
     let none = Found::nothing(NO_OPERATION);
-    let found = step_both!(alloc, queue, packets, none, RxQueue(receiving), Packets(held) => {
+    let found = step_both!(queue, packets, none, RxQueue(receiving), Packets(held) => {
         let had = held.stash.len();
         let found = receiving.batch(held);
         *posted = held.moved_since(had);
@@ -46,7 +44,6 @@ pub extern "C" fn poll82599_rx_queue_batch(
 /// left, because the stash is full; 2: it was not seen disabled.
 #[unsafe(no_mangle)]
 pub extern "C" fn poll82599_rx_queue_reclaim(
-    alloc: Global,
     queue: &mut Handle,
     packets: &mut Handle,
     count: &mut usize,
@@ -57,7 +54,7 @@ pub extern "C" fn poll82599_rx_queue_reclaim(
     ensures some { (result ≡ 0) → Among (λ _ had _ has. MovedBuffers count.new had has) (as_rx_queue queue.old.held) (as_packets packets.old.held) (as_rx_queue queue.new.held) (as_packets packets.new.held) }
 {
     let none = Found::nothing(NO_OPERATION);
-    let found = step_both!(alloc, queue, packets, none, RxQueue(receiving), Packets(held) => {
+    let found = step_both!(queue, packets, none, RxQueue(receiving), Packets(held) => {
         receiving.reclaim(held)
     });
     *count = found.count;
@@ -68,7 +65,6 @@ pub extern "C" fn poll82599_rx_queue_reclaim(
 /// seen off; 3: the oldest packet is too long.
 #[unsafe(no_mangle)]
 pub extern "C" fn poll82599_tx_queue_batch(
-    alloc: Global,
     queue: &mut Handle,
     packets: &mut Handle,
     count: &mut usize,
@@ -80,7 +76,7 @@ pub extern "C" fn poll82599_tx_queue_batch(
     ensures buffers { Among (λ _ had _ has. MovedBuffers cleaned.new had has) (as_tx_queue queue.old.held) (as_packets packets.old.held) (as_tx_queue queue.new.held) (as_packets packets.new.held) }
 {
     let none = Found::nothing(NO_OPERATION);
-    let found = step_both!(alloc, queue, packets, none, TxQueue(sending), Packets(held) => {
+    let found = step_both!(queue, packets, none, TxQueue(sending), Packets(held) => {
         let had = held.stash.len();
         let found = sending.batch(held);
         *cleaned = held.moved_since(had);
@@ -93,7 +89,6 @@ pub extern "C" fn poll82599_tx_queue_batch(
 /// Takes `count` reported buffers of a transmit queue back. 0: the queue was not seen on, or was seen off.
 #[unsafe(no_mangle)]
 pub extern "C" fn poll82599_tx_queue_clean(
-    alloc: Global,
     queue: &mut Handle,
     packets: &mut Handle,
     count: &mut usize,
@@ -103,7 +98,7 @@ pub extern "C" fn poll82599_tx_queue_clean(
     ensures step { Among (tx_queue.TriedCleaning result count.new) (as_tx_queue queue.old.held) (as_packets packets.old.held) (as_tx_queue queue.new.held) (as_packets packets.new.held) }
 {
     let none = Found::nothing(NO_OPERATION);
-    let found = step_both!(alloc, queue, packets, none, TxQueue(sending), Packets(held) => {
+    let found = step_both!(queue, packets, none, TxQueue(sending), Packets(held) => {
         sending.clean(held)
     });
     *count = found.count;
@@ -114,7 +109,6 @@ pub extern "C" fn poll82599_tx_queue_clean(
 /// left, because the stash is full; 2: it was not seen disabled.
 #[unsafe(no_mangle)]
 pub extern "C" fn poll82599_tx_queue_reclaim(
-    alloc: Global,
     queue: &mut Handle,
     packets: &mut Handle,
     count: &mut usize,
@@ -125,7 +119,7 @@ pub extern "C" fn poll82599_tx_queue_reclaim(
     ensures some { (result ≡ 0) → Among (λ _ had _ has. MovedBuffers count.new had has) (as_tx_queue queue.old.held) (as_packets packets.old.held) (as_tx_queue queue.new.held) (as_packets packets.new.held) }
 {
     let none = Found::nothing(NO_OPERATION);
-    let found = step_both!(alloc, queue, packets, none, TxQueue(sending), Packets(held) => {
+    let found = step_both!(queue, packets, none, TxQueue(sending), Packets(held) => {
         sending.reclaim(held)
     });
     *count = found.count;

@@ -7,13 +7,11 @@ ghost use Rattle.poll82599_c.specs.batches.Ranges.{TriedReadRange, TriedWriteRan
 use crate::call::NO_OPERATION;
 use crate::end::End;
 use crate::handle::Handle;
-use std::alloc::Global;
 
 /// Fills `room` with the bytes of a packet from `at` on. The worker's thread calls it. Returns 1: done; 0: there is no
 /// such packet, or it ends before `at` and the length of `room`.
 #[unsafe(no_mangle)]
 pub extern "C" fn poll82599_packet_read(
-    alloc: Global,
     packets: &mut Handle,
     packet: usize,
     at: usize,
@@ -22,14 +20,13 @@ pub extern "C" fn poll82599_packet_read(
     ensures other { as_packets packets.old.held ≡ None → (result ≡ 4294967295) × (packets.new.held ≡ packets.old.held) × (room.new ≡ room.old) }
     ensures step { Between (TriedReadRange result packet at room.old room.new) (as_packets packets.old.held) (as_packets packets.new.held) }
 {
-    step!(alloc, packets, Packets(held) => held.read(packet, at, room))
+    step!(packets, Packets(held) => held.read(packet, at, room))
 }
 
 /// Replaces the bytes of a packet from `at` on, in place. The worker's thread calls it. Returns 1: done; 0: there is no
 /// such packet, or it ends before `at` and the length of `bytes`.
 #[unsafe(no_mangle)]
 pub extern "C" fn poll82599_packet_write(
-    alloc: Global,
     packets: &mut Handle,
     packet: usize,
     at: usize,
@@ -38,5 +35,5 @@ pub extern "C" fn poll82599_packet_write(
     ensures other { as_packets packets.old.held ≡ None → (result ≡ 4294967295) × (packets.new.held ≡ packets.old.held) }
     ensures step { Between (TriedWriteRange result packet at bytes.now) (as_packets packets.old.held) (as_packets packets.new.held) }
 {
-    step!(alloc, packets, Packets(held) => held.write(packet, at, bytes))
+    step!(packets, Packets(held) => held.write(packet, at, bytes))
 }

@@ -7,8 +7,7 @@ ghost use Rattle.poll82599_c.specs.batches.Pools.{Supplied};
 use crate::batches::Found;
 use crate::call::{NO_OPERATION, Poll82599Queue};
 use crate::end::End;
-use crate::handle::{Handle, take_both};
-use std::alloc::Global;
+use crate::handle::Handle;
 
 /// Moves empty buffers between a worker and a pool, and counts them in `count`. One thread at a time uses the pool. The
 /// operations:
@@ -18,7 +17,6 @@ use std::alloc::Global;
 ///   pool is full.
 #[unsafe(no_mangle)]
 pub extern "C" fn poll82599_pool_move(
-    alloc: Global,
     packets: &mut Handle,
     pool: &mut Handle,
     call: &mut Poll82599Queue,
@@ -28,7 +26,7 @@ pub extern "C" fn poll82599_pool_move(
     ensures kept { (1 < call.old.operation) → (packets.new.held ≡ packets.old.held) × (pool.new.held ≡ pool.old.held) }
 {
     let none = Found::nothing(NO_OPERATION);
-    let found = step_both!(alloc, packets, pool, none, Packets(held), Pool(shared) => {
+    let found = step_both!(packets, pool, none, Packets(held), Pool(shared) => {
         match call.operation {
             0 => held.refill(shared),
             1 => held.give_back(shared, call.count),
@@ -41,18 +39,16 @@ pub extern "C" fn poll82599_pool_move(
 
 /// Counts the buffers in a pool. Returns `usize::MAX` if the handle is empty or of another kind.
 #[unsafe(no_mangle)]
-pub extern "C" fn poll82599_pool_count(alloc: Global, pool: &mut Handle) -> usize
+pub extern "C" fn poll82599_pool_count(pool: &mut Handle) -> usize
     ensures count { Of (λ numbers. result ≡ length numbers) (as_pool pool.old.held) }
     ensures other { as_pool pool.old.held ≡ None → result ≡ 18446744073709551615 }
     ensures kept { pool.new.held ≡ pool.old.held }
 {
-    let Some(end) = pool.take(alloc) else {
-        return usize::MAX;
-    };
-    let count = match &*end {
-        End::Pool(held) => held.len(),
-        _ => usize::MAX,
-    };
-    pool.put(end);
-    count
+    match pool.lent() {
+        None => usize::MAX,
+        Some(end) => match end {
+            End::Pool(held) => held.len(),
+            _ => usize::MAX,
+        },
+    }
 }

@@ -4,14 +4,13 @@ ghost use Rattle.std.specs.Prelude.{◌≡◌, ◌≢◌, ◌⊎◌, None, Some,
 use crate::end::End;
 use crate::handle::Handle;
 use crate::makings::Unmade;
-use std::alloc::Global;
 
 /// The result if a handle already holds an object.
 const IN_USE: i32 = 5;
 
 /// Puts a new object into an empty handle and returns 0, or returns the number of the refusal, or 5 if the handle holds an
 /// object, and drops the new one.
-pub(crate) fn put_one(alloc: Global, made: Result<Box<End>, Unmade>, handle: &mut Handle) -> i32
+pub(crate) fn put_one(made: Result<Box<End>, Unmade>, handle: &mut Handle) -> i32
     ensures made { IfOk made (λ r. ((result ≡ pos 0) × (handle.new.held ≡ Some r.value)) ⊎ (result ≡ pos 5)) }
     ensures was_empty { (result ≡ pos 0) → handle.old.held ≡ None }
     ensures in_use { (result ≡ pos 5) → (handle.old.held ≢ None) × (handle.new.held ≡ handle.old.held) }
@@ -21,7 +20,7 @@ pub(crate) fn put_one(alloc: Global, made: Result<Box<End>, Unmade>, handle: &mu
 {
     match made {
         Ok(object) => {
-            if !handle.is_empty(alloc) {
+            if !handle.is_empty() {
                 drop(object);
                 return IN_USE;
             }
@@ -35,7 +34,6 @@ pub(crate) fn put_one(alloc: Global, made: Result<Box<End>, Unmade>, handle: &mu
 /// Puts two new objects into empty handles and returns 0, or returns the number of the refusal, or 5 if either handle holds
 /// an object, and drops the new ones.
 pub(crate) fn put_both(
-    alloc: Global,
     made: Result<(Box<End>, Box<End>), Unmade>,
     one: &mut Handle,
     other: &mut Handle,
@@ -51,7 +49,7 @@ pub(crate) fn put_both(
 {
     match made {
         Ok((first, second)) => {
-            if !one.is_empty(alloc) || !other.is_empty(alloc) {
+            if !one.is_empty() || !other.is_empty() {
                 drop(first);
                 drop(second);
                 return IN_USE;

@@ -1,5 +1,5 @@
 //! The controller's steps that only a receive ring has.
-ghost use Rattle.std.specs.Prelude.{◌≡◌, ◌+◌, ◌<◌, true, length, None, Some};
+ghost use Rattle.std.specs.Prelude.{◌≡◌, ◌+◌, ◌<◌, true, false, length, None, Some};
 ghost use Rattle.buffer_pool.specs.Buffer.{buffer};
 ghost use Rattle.ring_model.specs.receive.Agreement.{rx_word};
 ghost use Rattle.ring_model.specs.shared.Segments.{piece_of};
@@ -9,8 +9,9 @@ ghost use Rattle.shared_ring.specs.declared.events.DriverEvent.TheVariants as dr
 ghost use Rattle.shared_ring.specs.declared.events.ControllerEvent.TheVariants as controller;
 ghost use Rattle.shared_ring.specs.Ends.{controller_of};
 ghost use Rattle.rx_ring.specs.declared.events.RxControllerOwn.TheVariants.{WroteBack, SaidQuiet};
-ghost use Rattle.rx_ring.specs.Ends.{controller_size, stored, held_number, controller_state, is_at_frame_end, serve_place, controller_grown};
+ghost use Rattle.rx_ring.specs.Ends.{controller_size, stored, known_free, held, held_number, controller_state, is_at_frame_end, is_quiet, serve_place, controller_grown};
 ghost use Rattle.rx_ring.specs.Form.{rx};
+ghost use Rattle.rx_ring.specs.Steps.{StoredAt};
 
 use crate::direction::{RxControllerSeat, RxShared};
 use crate::events::RxControllerEvent;
@@ -47,6 +48,30 @@ pub(crate) fn write_back(
     let _size = seat.size(); // which says that the length is lawful
     let word = RxBack::new(buf.len() as u16, eop).second_word();
     seat.give_own::<WriteBackStore>(ring, place, buf, place as usize, word);
+}
+
+/// A4 and A5: loads the next descriptor, fills its buffer, and stores the write-back of these bytes. The buffer stays in
+/// its slot.
+#[inline]
+pub(crate) fn store(
+    seat: &mut RxControllerSeat,
+    ring: &RxShared,
+    place: u16,
+    bytes: &[u8],
+    eop: bool,
+)
+    requires own { seat.old.table ≡ ring.now }
+    requires place { place ≡ serve_place (controller_of rx seat.old) }
+    requires serving { is_serving (controller_state (controller_of rx seat.old)) ≡ true }
+    requires free { 0 < known_free (controller_of rx seat.old) }
+    requires held { held (controller_of rx seat.old) ≡ None }
+    requires quiet { is_quiet (controller_of rx seat.old) ≡ false }
+    requires follows { Follows piece_of (controller_size (controller_of rx seat.old)) (unfinished piece_of (stored (controller_of rx seat.old))) bytes.now eop }
+    ensures { StoredAt (controller_of rx seat.old) place bytes.now eop (controller_of rx seat.new) }
+{
+    let _size = seat.size(); // which says that the length is lawful
+    let word = RxBack::new(bytes.len() as u16, eop).second_word();
+    seat.fill_own::<WriteBackStore>(ring, place, bytes, place as usize, word);
 }
 
 /// A7: stores the head (RDH).

@@ -12,18 +12,18 @@ loop-ends-init c =
     let whole = whole-unfinished carried (sent c.args.end.now) r.idle.at_frame_end in
     goes_into _ _ _ _ _ _ _ _ _ _ _ _ (begins_into _ _ _ (starts _ r.idle.unheld r.idle.paid whole r.serving r.ready) whole r.begun r.room) c.put_segment-ends.ensures
 
-pub put_later-ends-requires-clause-own : goal.put_later-ends-requires-clause-own
-put_later-ends-requires-clause-own c = (still_going _ _ _ _ _ _ _ _ c.loop-ends-test.true c.loop-ends.invariant).sending.own ∙ c.requires.own
+pub put_later-requires-clause-own : goal.put_later-requires-clause-own
+put_later-requires-clause-own c = (still_going _ _ _ _ _ _ _ _ c.loop-ends-test.true c.loop-ends.invariant).sending.own ∙ c.requires.own
 
-pub put_later-ends-requires-clause-can : goal.put_later-ends-requires-clause-can
-put_later-ends-requires-clause-can c = can_put _ _ _ _ _ _ _ (still_going _ _ _ _ _ _ _ _ c.loop-ends-test.true c.loop-ends.invariant)
+pub put_later-requires-clause-can : goal.put_later-requires-clause-can
+put_later-requires-clause-can c = can_put _ _ _ _ _ _ _ (still_going _ _ _ _ _ _ _ _ c.loop-ends-test.true c.loop-ends.invariant)
 
 pub loop-ends-smaller : goal.loop-ends-smaller
-loop-ends-smaller c = subst (λ (e : Bool). (if c.put_later-ends.result then 0 else known_ready c.put_later-ends.new.end) < (if e then 0 else known_ready c.loop-ends.end)) (sym c.loop-ends-test.true)
-    (fewer _ _ _ _ (still_going _ _ _ _ _ _ _ _ c.loop-ends-test.true c.loop-ends.invariant).sending.next c.put_later-ends.ensures.went)
+loop-ends-smaller c = subst (λ (e : Bool). (if c.put_later.result.0 then 0 else known_ready c.put_later.new.end) < (if e then 0 else known_ready c.loop-ends.end)) (sym c.loop-ends-test.true)
+    (fewer _ _ _ _ (still_going _ _ _ _ _ _ _ _ c.loop-ends-test.true c.loop-ends.invariant).sending.next c.put_later.ensures.went)
 
 pub loop-ends-preserved : goal.loop-ends-preserved
-loop-ends-preserved c = goes_into _ _ _ _ _ _ _ _ _ _ _ _ (still_going _ _ _ _ _ _ _ _ c.loop-ends-test.true c.loop-ends.invariant) c.put_later-ends.ensures
+loop-ends-preserved c = goes_into _ _ _ _ _ _ _ _ _ _ _ _ (still_going _ _ _ _ _ _ _ _ c.loop-ends-test.true c.loop-ends.invariant) c.put_later.ensures
 
 pub settle-requires : goal.settle-requires
 settle-requires c = record { own = own_ended _ _ _ _ _ _ _ (has_ended _ _ _ _ _ _ _ _ c.loop-ends-test.false c.loop-ends.invariant) ∙ c.requires.own }

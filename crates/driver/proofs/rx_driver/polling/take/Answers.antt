@@ -22,9 +22,9 @@ loop-count-preserved-then-eop c =
     c.loop-count.invariant.polled.count_is c.loop-count-test.true c.if-not-is_full.ensures.fits c.if-not-is_full.ensures.value in
     let took = subst (λ (e : Bool). TookSegment c.loop-count.driver c.in-Segment.buf e c.poll.new.self) c.if-eop.true c.in-Segment.ensures.found in
     let ended = polled-ended old c.loop-count.count c.loop-count.driver c.loop-count.chain c.loop-count.stash c.loop-count.packets.items c.loop-count.invariant.polled c.poll.new.self c.post_one.new.driver c.in-Segment.buf c.post_one.new.stash c.post_one.ensures.posted took in
-    let list = c.push.ensures.items ∙ ap (λ (p : List Buffer). c.loop-count.packets.items ++ p ∷ []) (c.take.ensures.value ∙ c.push_back.ensures) in record {
-      polled = subst (λ (l : List (List Buffer)). Polled old (c.loop-count.count + 1) (at c.post_one.new.driver c.take.new.dest c.post_one.new.stash l)) (sym list)
-          (subst (λ (chain : List Buffer). Polled old (c.loop-count.count + 1) (at c.post_one.new.driver chain c.post_one.new.stash (c.loop-count.packets.items ++ (c.loop-count.chain ++ c.in-Segment.buf ∷ []) ∷ []))) (sym c.take.ensures.after) ended);
+    let list = c.push.ensures.items ∙ ap (λ (p : List Buffer). c.loop-count.packets.items ++ p ∷ []) c.ended.ensures.packet in record {
+      polled = subst (λ (l : List (List Buffer)). Polled old (c.loop-count.count + 1) (at c.post_one.new.driver c.ended.new.chain c.post_one.new.stash l)) (sym list)
+          (subst (λ (chain : List Buffer). Polled old (c.loop-count.count + 1) (at c.post_one.new.driver chain c.post_one.new.stash (c.loop-count.packets.items ++ (c.loop-count.chain ++ c.in-Segment.buf ∷ []) ∷ []))) (sym c.ended.ensures.left) ended);
       few = omega arith;
       goes = goes-one most (most - c.loop-count.count) c.args.driver.now c.args.stash.now c.loop-count.driver c.loop-count.stash c.loop-count.invariant.goes
           (most - (c.loop-count.count + 1)) c.poll.new.self c.post_one.new.driver c.post_one.new.stash c.in-Segment.buf true some (omega arith) took

@@ -2,7 +2,7 @@ use Rattle.std.proofs.Common.{◌≡◌, ◌+◌, length, true}
 use Rattle.ring_model.specs.shared.Handshakes.{is_open}
 use Rattle.tx_ring.specs.Ends.{driver_state}
 use Rattle.driver.proofs.transmit.Posting.{FrameBegun}
-use Rattle.driver.proofs.tx_driver.posting.post_frame.Given as goal
+use Rattle.driver.proofs.tx_driver.posting.post_segments.Given as goal
 
 abbrev pub invariant-loop : goal.invariant-loop
 invariant-loop l = record {
