@@ -122,7 +122,7 @@ impl TxControllerEnd {
 
     /// Sends the next segment: `fetch`, a taking of the buffer's bytes by `sink`, and `give_back` in one call. The buffer
     /// stays in its slot, which is faster. Returns whether the segment ends its frame.
-    #[inline]
+    #[inline(always)]
     pub fn send<S: Sink>(&mut self, ring: &TxRing, sink: &mut S) -> bool
         requires own { self.old.table ≡ ring.now }
         requires serving { is_serving (controller_state self.old) ≡ true }
