@@ -11,7 +11,8 @@ pub(crate) struct Found {
 impl Found {
     /// A result without a count: `count` is 0.
     pub(crate) fn nothing(answer: u32) -> Found
-        ensures { result.answer ≡ answer }
+        ensures answer { result.answer ≡ answer }
+        ensures none { result.count ≡ 0 }
     {
         Found { answer, count: 0 }
     }

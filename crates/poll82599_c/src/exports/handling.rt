@@ -53,7 +53,7 @@ pub extern "C" fn poll82599_packet_copy(
     room: &mut [u8],
     len: &mut usize,
 ) -> u32
-    ensures other { as_packets packets.old.held ≡ None → (result ≡ 4294967295) × (packets.new.held ≡ packets.old.held) × (room.new ≡ room.old) }
+    ensures other { as_packets packets.old.held ≡ None → (result ≡ 4294967295) × (packets.new.held ≡ packets.old.held) × (room.new ≡ room.old) × (len.new ≡ len.old) }
     ensures step { Between (TriedCopy result packet len.new room.old room.new) (as_packets packets.old.held) (as_packets packets.new.held) }
     ensures kept { (result ≢ 1) → packets.new.held ≡ packets.old.held }
 {
@@ -72,7 +72,7 @@ pub extern "C" fn poll82599_packet_byte(
     at: usize,
     byte: &mut u8,
 ) -> u32
-    ensures other { as_packets packets.old.held ≡ None → (result ≡ 4294967295) × (packets.new.held ≡ packets.old.held) }
+    ensures other { as_packets packets.old.held ≡ None → (result ≡ 4294967295) × (packets.new.held ≡ packets.old.held) × (byte.new ≡ byte.old) }
     ensures step { Between (TriedRead result packet at byte.new) (as_packets packets.old.held) (as_packets packets.new.held) }
     ensures kept { packets.new.held ≡ packets.old.held }
 {
@@ -116,7 +116,7 @@ pub extern "C" fn poll82599_packet_measure(
     len: &mut usize,
     segments: &mut usize,
 ) -> u32
-    ensures other { as_packets packets.old.held ≡ None → (result ≡ 4294967295) × (packets.new.held ≡ packets.old.held) }
+    ensures other { as_packets packets.old.held ≡ None → (result ≡ 4294967295) × (packets.new.held ≡ packets.old.held) × (len.new ≡ len.old) × (segments.new ≡ segments.old) }
     ensures step { Between (TriedMeasure result packet len.new segments.new) (as_packets packets.old.held) (as_packets packets.new.held) }
     ensures kept { packets.new.held ≡ packets.old.held }
 {
@@ -135,7 +135,7 @@ pub extern "C" fn poll82599_packets_measure(
     count: &mut usize,
     empty: &mut usize,
 ) -> u32
-    ensures other { as_packets packets.old.held ≡ None → (result ≡ 4294967295) × (packets.new.held ≡ packets.old.held) }
+    ensures other { as_packets packets.old.held ≡ None → (result ≡ 4294967295) × (packets.new.held ≡ packets.old.held) × (count.new ≡ count.old) × (empty.new ≡ empty.old) }
     ensures step { Between (TriedCount result count.new empty.new) (as_packets packets.old.held) (as_packets packets.new.held) }
     ensures kept { packets.new.held ≡ packets.old.held }
 {

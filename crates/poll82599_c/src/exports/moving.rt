@@ -24,7 +24,7 @@ pub extern "C" fn poll82599_rx_queue_batch(
     count: &mut usize,
     posted: &mut usize,
 ) -> u32
-    ensures other { (as_rx_queue queue.old.held ≡ None) ⊎ (as_packets packets.old.held ≡ None) → (result ≡ 4294967295) × (queue.new.held ≡ queue.old.held) × (packets.new.held ≡ packets.old.held) }
+    ensures other { (as_rx_queue queue.old.held ≡ None) ⊎ (as_packets packets.old.held ≡ None) → (result ≡ 4294967295) × (queue.new.held ≡ queue.old.held) × (packets.new.held ≡ packets.old.held) × (count.new ≡ 0) × (posted.new ≡ posted.old) }
     ensures own { SameQueue receiver (as_rx_queue queue.old.held) (as_rx_queue queue.new.held) }
     ensures step { Among (rx_queue.TriedBatch result count.new) (as_rx_queue queue.old.held) (as_packets packets.old.held) (as_rx_queue queue.new.held) (as_packets packets.new.held) }
     ensures buffers { Among (λ _ had _ has. MovedBuffers posted.new had has) (as_rx_queue queue.old.held) (as_packets packets.old.held) (as_rx_queue queue.new.held) (as_packets packets.new.held) }
@@ -48,7 +48,7 @@ pub extern "C" fn poll82599_rx_queue_reclaim(
     packets: &mut Handle,
     count: &mut usize,
 ) -> u32
-    ensures other { (as_rx_queue queue.old.held ≡ None) ⊎ (as_packets packets.old.held ≡ None) → (result ≡ 4294967295) × (queue.new.held ≡ queue.old.held) × (packets.new.held ≡ packets.old.held) }
+    ensures other { (as_rx_queue queue.old.held ≡ None) ⊎ (as_packets packets.old.held ≡ None) → (result ≡ 4294967295) × (queue.new.held ≡ queue.old.held) × (packets.new.held ≡ packets.old.held) × (count.new ≡ 0) }
     ensures own { SameQueue receiver (as_rx_queue queue.old.held) (as_rx_queue queue.new.held) }
     ensures step { Among (TriedReclaim receiver result count.new) (as_rx_queue queue.old.held) (as_packets packets.old.held) (as_rx_queue queue.new.held) (as_packets packets.new.held) }
     ensures some { (result ≡ 0) → Among (λ _ had _ has. MovedBuffers count.new had has) (as_rx_queue queue.old.held) (as_packets packets.old.held) (as_rx_queue queue.new.held) (as_packets packets.new.held) }
@@ -70,7 +70,7 @@ pub extern "C" fn poll82599_tx_queue_batch(
     count: &mut usize,
     cleaned: &mut usize,
 ) -> u32
-    ensures other { (as_tx_queue queue.old.held ≡ None) ⊎ (as_packets packets.old.held ≡ None) → (result ≡ 4294967295) × (queue.new.held ≡ queue.old.held) × (packets.new.held ≡ packets.old.held) }
+    ensures other { (as_tx_queue queue.old.held ≡ None) ⊎ (as_packets packets.old.held ≡ None) → (result ≡ 4294967295) × (queue.new.held ≡ queue.old.held) × (packets.new.held ≡ packets.old.held) × (count.new ≡ 0) × (cleaned.new ≡ cleaned.old) }
     ensures own { SameQueue transmitter (as_tx_queue queue.old.held) (as_tx_queue queue.new.held) }
     ensures step { Among (tx_queue.TriedBatch result count.new) (as_tx_queue queue.old.held) (as_packets packets.old.held) (as_tx_queue queue.new.held) (as_packets packets.new.held) }
     ensures buffers { Among (λ _ had _ has. MovedBuffers cleaned.new had has) (as_tx_queue queue.old.held) (as_packets packets.old.held) (as_tx_queue queue.new.held) (as_packets packets.new.held) }
@@ -93,7 +93,7 @@ pub extern "C" fn poll82599_tx_queue_clean(
     packets: &mut Handle,
     count: &mut usize,
 ) -> u32
-    ensures other { (as_tx_queue queue.old.held ≡ None) ⊎ (as_packets packets.old.held ≡ None) → (result ≡ 4294967295) × (queue.new.held ≡ queue.old.held) × (packets.new.held ≡ packets.old.held) }
+    ensures other { (as_tx_queue queue.old.held ≡ None) ⊎ (as_packets packets.old.held ≡ None) → (result ≡ 4294967295) × (queue.new.held ≡ queue.old.held) × (packets.new.held ≡ packets.old.held) × (count.new ≡ 0) }
     ensures own { SameQueue transmitter (as_tx_queue queue.old.held) (as_tx_queue queue.new.held) }
     ensures step { Among (tx_queue.TriedCleaning result count.new) (as_tx_queue queue.old.held) (as_packets packets.old.held) (as_tx_queue queue.new.held) (as_packets packets.new.held) }
 {
@@ -113,7 +113,7 @@ pub extern "C" fn poll82599_tx_queue_reclaim(
     packets: &mut Handle,
     count: &mut usize,
 ) -> u32
-    ensures other { (as_tx_queue queue.old.held ≡ None) ⊎ (as_packets packets.old.held ≡ None) → (result ≡ 4294967295) × (queue.new.held ≡ queue.old.held) × (packets.new.held ≡ packets.old.held) }
+    ensures other { (as_tx_queue queue.old.held ≡ None) ⊎ (as_packets packets.old.held ≡ None) → (result ≡ 4294967295) × (queue.new.held ≡ queue.old.held) × (packets.new.held ≡ packets.old.held) × (count.new ≡ 0) }
     ensures own { SameQueue transmitter (as_tx_queue queue.old.held) (as_tx_queue queue.new.held) }
     ensures step { Among (TriedReclaim transmitter result count.new) (as_tx_queue queue.old.held) (as_packets packets.old.held) (as_tx_queue queue.new.held) (as_packets packets.new.held) }
     ensures some { (result ≡ 0) → Among (λ _ had _ has. MovedBuffers count.new had has) (as_tx_queue queue.old.held) (as_packets packets.old.held) (as_tx_queue queue.new.held) (as_packets packets.new.held) }

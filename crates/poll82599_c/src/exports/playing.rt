@@ -68,7 +68,7 @@ pub extern "C" fn poll82599_rx_device_count(
 /// was refused.
 #[unsafe(no_mangle)]
 pub extern "C" fn poll82599_turn(device: &mut Handle, room: &mut [u8], len: &mut usize) -> u32
-    ensures other { as_tx_device device.old.held ≡ None → (result ≡ 4294967295) × (device.new.held ≡ device.old.held) × (room.new ≡ room.old) }
+    ensures other { as_tx_device device.old.held ≡ None → (result ≡ 4294967295) × (device.new.held ≡ device.old.held) × (room.new ≡ room.old) × (len.new ≡ len.old) }
     ensures own { tx_queue.SameDevice (as_tx_device device.old.held) (as_tx_device device.new.held) }
     ensures step { Between (tx_queue.TriedTurn result len.new room.old room.new) (as_sender device.old.held) (as_sender device.new.held) }
 {

@@ -21,7 +21,7 @@ pub extern "C" fn poll82599_pool_move(
     pool: &mut Handle,
     call: &mut Poll82599Queue,
 )
-    ensures other { (as_packets packets.old.held ≡ None) ⊎ (as_pool pool.old.held ≡ None) → (call.new.answer ≡ 4294967295) × (packets.new.held ≡ packets.old.held) × (pool.new.held ≡ pool.old.held) }
+    ensures other { (as_packets packets.old.held ≡ None) ⊎ (as_pool pool.old.held ≡ None) → (call.new.answer ≡ 4294967295) × (packets.new.held ≡ packets.old.held) × (pool.new.held ≡ pool.old.held) × (call.new.count ≡ 0) }
     ensures step { Among (Supplied call.old.operation call.new.answer call.old.count call.new.count) (as_packets packets.old.held) (as_pool pool.old.held) (as_packets packets.new.held) (as_pool pool.new.held) }
     ensures kept { (1 < call.old.operation) → (packets.new.held ≡ packets.old.held) × (pool.new.held ≡ pool.old.held) }
 {
