@@ -22,7 +22,6 @@ use Rattle.std_heap.proofs.Global.TheSendSync as heap
 use Rattle.std.proofs.vec.Vec.TheSendSync as vec
 use Rattle.controller.proofs.wire.Wire.TheSendSync as wire
 use Rattle.controller.specs.contracts.receiving.RxController as RxController
-use Rattle.controller.specs.contracts.transmitting.TxController as TxController
 use Rattle.driver.specs.contracts.rx_driver.RxDriver as RxDriver
 use Rattle.driver.specs.contracts.tx_driver.TxDriver as TxDriver
 use Rattle.rx_ring.specs.contracts.ring.RxRing as RxRing

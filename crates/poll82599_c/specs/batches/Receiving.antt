@@ -21,7 +21,7 @@ use Rattle.controller.specs.Receiving.{Finished, Receiving, WasDropped, WasHeld,
 use Rattle.counters.specs.Kinds.{nothing}
 use Rattle.poll82599_c.specs.Held.{Between, Both, Of, OfBoth}
 use Rattle.poll82599_c.specs.batches.Packets.{Worked}
-use Rattle.poll82599_c.specs.batches.Queues.{DidAlike, Kind, TriedLive, TriedReclaim}
+use Rattle.poll82599_c.specs.batches.Queues.{DidAlike, Kind, TriedLive}
 
 -- The driver and the device of a fresh ring of n descriptors: at most `batch` packets in a batch, buffers filled to
 -- `fill` bytes, and frames without enough free descriptors dropped or held

@@ -1,5 +1,5 @@
 -- A transmit queue's driver and its device, and their steps.
-use Rattle.std.specs.Prelude.{◌≡◌, ℕ, zero, suc, ◌+◌, ◌++◌, ◌<◌, Option, Some, List, [], ◌∷◌, ◌⊎◌, length, take, drop, map}
+use Rattle.std.specs.Prelude.{◌≡◌, ℕ, zero, suc, ◌+◌, ◌++◌, ◌<◌, Option, List, [], ◌∷◌, ◌⊎◌, length, take, drop, map}
 use Rattle.buffer_pool.specs.Packed.{bytes_of}
 use Rattle.ring_model.specs.declared.states.Completion.{Completion}
 use Rattle.ring_model.specs.shared.Frames.{Bytes, frames}
@@ -19,7 +19,7 @@ use Rattle.controller.specs.Handshaking.{TurnedControl}
 use Rattle.controller.specs.Transmitting.{WasIdle, WasOff, WasRefused, WasSent}
 use Rattle.poll82599_c.specs.Held.{Between, Both, OfBoth}
 use Rattle.poll82599_c.specs.batches.Packets.{Worked}
-use Rattle.poll82599_c.specs.batches.Queues.{DidAlike, IsOff, Kind, TriedLive, TriedReclaim}
+use Rattle.poll82599_c.specs.batches.Queues.{DidAlike, IsOff, Kind, TriedLive}
 
 -- The driver and the device of a fresh ring of n descriptors that reports in this way; each `every`th frame asks for a
 -- report

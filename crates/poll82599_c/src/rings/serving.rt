@@ -97,9 +97,7 @@ impl RxServing {
         ensures own { self.new.table ≡ self.old.table }
         ensures wrote { WroteOne bytes.now eop self.old self.new }
     {
-        let mut buf = self.end.fetch(&self.ring);
-        buf.fill(bytes);
-        self.end.write_back(&self.ring, buf, eop);
+        self.end.store(&self.ring, bytes, eop);
         self.begun = begun.with(bytes.len());
         if eop {
             self.end.set_head(&self.ring);

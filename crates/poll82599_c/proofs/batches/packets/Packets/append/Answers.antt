@@ -1,5 +1,5 @@
 -- The list has room for the packet that was removed from it, and contains packets only.
-use Rattle.std.proofs.Common.{rules, ◌+◌, ◌<◌, ◌≡◌, length, subst, sym, arith}
+use Rattle.std.proofs.Common.{rules, subst, sym, arith}
 use Rattle.std.specs.Prelude.{All}
 use Rattle.std.proofs.lemmas.List.Elements.{All-push, All-take}
 use Rattle.buffer_pool.specs.Packed.{IsPacket}

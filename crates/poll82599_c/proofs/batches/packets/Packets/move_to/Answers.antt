@@ -1,6 +1,6 @@
 -- Both lists contain packets only, as before.
-use Rattle.std.proofs.Common.{◌≡◌, ◌<◌, rules, length, subst, sym, refl}
-use Rattle.std.specs.Prelude.{All, Some, slice_get}
+use Rattle.std.proofs.Common.{◌<◌, rules, length, subst, sym, refl}
+use Rattle.std.specs.Prelude.{All}
 use Rattle.std.proofs.lemmas.List.Elements.{All-push}
 use Rattle.std.proofs.lemmas.Option.{slice_get_read}
 use Rattle.buffer_pool.specs.Packed.{IsPacket}
