@@ -14,7 +14,7 @@ use std::collections::LinkedList;
 use std::marker::Model;
 use std::sync::Arc;
 
-/// The rule of the words: they are as many as the key says, and are one after another those moments that were written.
+/// The rule of the words: there are as many as the key says, and what they hold together is a moment that was written.
 struct RegisterRule;
 
 impl TableRule<(), CellKnowledge<LinkedList<u64>>, usize> for RegisterRule {

@@ -104,8 +104,8 @@ impl RxControllerEnd {
         self.at.at_frame_end = eop;
     }
 
-    /// Stores a segment in the next descriptor: `fetch`, a filling of the buffer, and `write_back` in one call. The buffer
-    /// stays in its slot, which is faster. The bytes must be allowed after the frame's segments so far.
+    /// Stores a segment in the next descriptor: does the work of `fetch`, `Buf::fill` and `write_back` in one call. The
+    /// buffer stays in its slot, which is faster. The bytes must be allowed after the frame's segments so far.
     #[inline]
     pub fn store(&mut self, ring: &RxRing, bytes: &[u8], eop: bool)
         requires own { self.old.table ≡ ring.now }

@@ -120,8 +120,8 @@ impl TxControllerEnd {
         self.owed = self.asks;
     }
 
-    /// Sends the next segment: `fetch`, a taking of the buffer's bytes by `sink`, and `give_back` in one call. The buffer
-    /// stays in its slot, which is faster. Returns whether the segment ends its frame.
+    /// Sends the next segment: does the work of `fetch` and `give_back` in one call, and in between shows `sink` the
+    /// buffer, which stays in its slot. That is faster. Returns whether the segment ends its frame.
     #[inline(always)]
     pub fn send<S: Sink>(&mut self, ring: &TxRing, sink: &mut S) -> bool
         requires own { self.old.table ≡ ring.now }

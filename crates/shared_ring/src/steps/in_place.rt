@@ -11,7 +11,7 @@ use crate::events::ControllerEvent;
 use crate::plays::{Gives, NextLoad, Takes};
 use buffer_pool::Buf;
 
-/// What takes the bytes of a fetched buffer, which stays in its slot.
+/// A receiver of the bytes of fetched buffers, which stay in their slots.
 pub trait Sink {
     ghost use Rattle.std.specs.Prelude.{ℕ};
     ghost use Rattle.buffer_pool.specs.Buffer.{Buffer};
