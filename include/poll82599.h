@@ -100,14 +100,11 @@ enum poll82599_result {
 #define POLL82599_NO_END UINT32_C(0xFFFFFFFF)
 #define POLL82599_NOT_CLOSED INT64_C(-2)
 
-/* The operation that a step of a driver or a controller makes, and its result. */
+/* The operation that a driver or a pool makes, its result, and a count of buffers or segments. */
 struct poll82599_call {
     uint32_t operation;
     uint32_t answer;
-    uint32_t len; /* bytes of a segment that was handed out; or how many segments are left */
-    uint32_t eop; /* whether the segment ends its frame: of one handed out, and of one to be stored or posted */
-    uint32_t rs; /* of a segment to be posted: whether it asks for a report, */
-    uint32_t paylen; /* and the length of the whole frame in bytes */
+    size_t count; /* to poll82599_pool_move: how many buffers to return */
 };
 
 /* The registers of queue 0 by their offsets in the datasheet (sections 8.2.3.8 and 8.2.3.9); those of queue q, below 64, are
@@ -130,25 +127,20 @@ enum { POLL82599_OFF = 0, POLL82599_ENABLE_ASKED = 1, POLL82599_ON = 2, POLL8259
 struct poll82599_rx_driver { uint8_t *end; };
 struct poll82599_rx_controller { uint8_t *end; };
 
-/* The operations of poll82599_rx_drive and poll82599_rx_serve. */
+/* The operations of poll82599_rx_drive. Below is an inline function for each of them. */
 enum poll82599_rx_driver_operation {
-    POLL82599_RX_POST = 0,
-    POLL82599_RX_SET_TAIL = 1,
-    POLL82599_RX_POLL = 2,
-    POLL82599_RX_ASK_ENABLE = 3,
-    POLL82599_RX_STATE = 4,
-    POLL82599_RX_ASK_DISABLE = 5,
-    POLL82599_RX_IS_QUIET = 6,
-    POLL82599_RX_RECLAIM = 7,
-    POLL82599_RX_RENEW = 8,
-    POLL82599_RX_UNTAKEN = 9
+    POLL82599_RX_SET_TAIL = 0,
+    POLL82599_RX_ASK_ENABLE = 1,
+    POLL82599_RX_STATE = 2,
+    POLL82599_RX_ASK_DISABLE = 3,
+    POLL82599_RX_RECLAIM = 4,
+    POLL82599_RX_RENEW = 5,
+    POLL82599_RX_UNTAKEN = 6,
+    POLL82599_RX_IS_QUIET = 7
 };
-enum poll82599_rx_controller_operation { POLL82599_RX_ANSWER = 0, POLL82599_RX_STORE = 1, POLL82599_RX_SET_QUIET = 2 };
 
-/* The exported functions. Each but ..._new and ..._close takes the number of an operation; below is an inline function for each operation. */
 int32_t poll82599_rx_new(uint32_t descriptors, uint32_t buffers, struct poll82599_rx_driver *driver, struct poll82599_rx_controller *controller);
-void poll82599_rx_drive(struct poll82599_rx_driver *driver, struct poll82599_call *call, uint8_t *bytes, size_t room);
-void poll82599_rx_serve(struct poll82599_rx_controller *controller, struct poll82599_call *call, const uint8_t *segment, size_t len);
+void poll82599_rx_drive(struct poll82599_rx_driver *driver, struct poll82599_call *call);
 int64_t poll82599_rx_close(struct poll82599_rx_driver *driver, struct poll82599_rx_controller *controller);
 
 /* poll82599_rx_new makes a receive ring of `descriptors` descriptors: its driver, which has `buffers` empty buffers, and its controller.
@@ -161,9 +153,8 @@ int64_t poll82599_rx_close(struct poll82599_rx_driver *driver, struct poll82599_
 
 static inline uint32_t poll82599_rx_do(struct poll82599_rx_driver *driver, uint32_t operation)
 {
-    struct poll82599_call call = {operation, 0, 0, 0, 0, 0};
-    uint8_t none = 0;
-    poll82599_rx_drive(driver, &call, &none, 0);
+    struct poll82599_call call = {operation, 0, 0};
+    poll82599_rx_drive(driver, &call);
     return call.answer;
 }
 
@@ -171,7 +162,7 @@ static inline uint32_t poll82599_rx_do(struct poll82599_rx_driver *driver, uint3
 
 /* Posts an empty buffer in the next descriptor (section 7.1.6.1). The controller sees it after poll82599_rx_set_tail. Allowed before the
  * queue is on. Returns 1: done; 0: no free descriptor, no empty buffer, or a disabling was asked for. */
-static inline uint32_t poll82599_rx_post(struct poll82599_rx_driver *driver) { return poll82599_rx_do(driver, POLL82599_RX_POST); }
+uint32_t poll82599_rx_post(struct poll82599_rx_driver *driver);
 
 /* Stores RDT after the last posted descriptor (section 7.1.9). Returns 1: done; 0: a disabling was asked for. */
 static inline uint32_t poll82599_rx_set_tail(struct poll82599_rx_driver *driver) { return poll82599_rx_do(driver, POLL82599_RX_SET_TAIL); }
@@ -180,14 +171,7 @@ static inline uint32_t poll82599_rx_set_tail(struct poll82599_rx_driver *driver)
  * again. Returns 1: its bytes are at the beginning of `bytes`, its length in `*len` and its EOP in `*eop`; 0: the next descriptor has
  * no DD yet; 2: nothing is posted; 3: the queue was not seen on, or was seen off; 4: `room` is below 2,048. Only 1 takes a segment or
  * writes to `bytes`. */
-static inline uint32_t poll82599_rx_poll(struct poll82599_rx_driver *driver, uint8_t *bytes, size_t room, uint32_t *len, uint32_t *eop)
-{
-    struct poll82599_call call = {POLL82599_RX_POLL, 0, 0, 0, 0, 0};
-    poll82599_rx_drive(driver, &call, bytes, room);
-    *len = call.len;
-    *eop = call.eop;
-    return call.answer;
-}
+uint32_t poll82599_rx_poll(struct poll82599_rx_driver *driver, uint8_t *bytes, size_t room, uint32_t *len, uint32_t *eop);
 
 /* Asks for the queue to be enabled (section 4.6.7). The controller has to answer. Returns 1: done; 0: this was asked before, and the
  * ring was not renewed since. */
@@ -209,10 +193,9 @@ static inline uint32_t poll82599_rx_is_quiet(struct poll82599_rx_driver *driver)
  * is final. Returns 1: done; 0: a buffer was reclaimed before; 2: no disabling was seen answered. */
 static inline uint32_t poll82599_rx_untaken(struct poll82599_rx_driver *driver, uint32_t *left)
 {
-    struct poll82599_call call = {POLL82599_RX_UNTAKEN, 0, 0, 0, 0, 0};
-    uint8_t none = 0;
-    poll82599_rx_drive(driver, &call, &none, 0);
-    *left = call.len;
+    struct poll82599_call call = {POLL82599_RX_UNTAKEN, 0, 0};
+    poll82599_rx_drive(driver, &call);
+    *left = (uint32_t)call.count;
     return call.answer;
 }
 
@@ -226,82 +209,53 @@ static inline uint32_t poll82599_rx_renew(struct poll82599_rx_driver *driver) { 
 
 /* ---- The controller's thread. */
 
-static inline uint32_t poll82599_rx_act(struct poll82599_rx_controller *controller, uint32_t operation, const uint8_t *segment, size_t len, uint32_t eop)
-{
-    struct poll82599_call call = {operation, 0, 0, eop, 0, 0};
-    poll82599_rx_serve(controller, &call, segment, len);
-    return call.answer;
-}
-
 /* Loads the control word, and answers what the driver asks. Returns 1: an enabling or a disabling is now answered; 0: nothing was asked,
  * or a disabling has to wait until the unfinished frame is complete. */
-static inline uint32_t poll82599_rx_answer(struct poll82599_rx_controller *controller)
-{
-    static const uint8_t none = 0;
-    return poll82599_rx_act(controller, POLL82599_RX_ANSWER, &none, 0, 0);
-}
-
-/* Stores a frame of one segment, 14 to 2,048 bytes, and RDH. Returns 1: done; 0: no descriptor is free; 2: another length, or
- * these bytes cannot end the unfinished frame; 3: the queue is off, or was said to be quiet. Only 1 stores anything. */
-static inline uint32_t poll82599_rx_store(struct poll82599_rx_controller *controller, const uint8_t *frame, size_t len)
-{
-    return poll82599_rx_act(controller, POLL82599_RX_STORE, frame, len, 1);
-}
+uint32_t poll82599_rx_answer(struct poll82599_rx_controller *controller);
 
 /* Stores a segment of 1 to 2,048 bytes, with EOP if `eop` is not 0 (section 7.1.6.2), and RDH if it ends its frame. A frame has 14 to
  * 15,000 bytes in up to 15 segments, and fewer segments than the ring has descriptors. Returns 1: done; 0: no descriptor is free; 2:
- * the segment cannot follow the frame so far; 3: as above. After 0, 2 or 3 the frame is as it was. */
-static inline uint32_t poll82599_rx_store_segment(struct poll82599_rx_controller *controller, const uint8_t *bytes, size_t len, uint32_t eop)
+ * another length, or the segment cannot follow the frame so far; 3: the queue is off, or was said to be quiet. Only 1 stores anything. */
+uint32_t poll82599_rx_store_segment(struct poll82599_rx_controller *controller, const uint8_t *bytes, size_t len, uint32_t eop);
+
+/* Stores a frame of one segment, 14 to 2,048 bytes. Returns what poll82599_rx_store_segment returns. */
+static inline uint32_t poll82599_rx_store(struct poll82599_rx_controller *controller, const uint8_t *frame, size_t len)
 {
-    return poll82599_rx_act(controller, POLL82599_RX_STORE, bytes, len, eop);
+    return poll82599_rx_store_segment(controller, frame, len, 1);
 }
 
 /* Says that no more is stored until the queue is enabled again. Returns 1: done; 0: the queue is off, or a frame is unfinished. */
-static inline uint32_t poll82599_rx_set_quiet(struct poll82599_rx_controller *controller)
-{
-    static const uint8_t none = 0;
-    return poll82599_rx_act(controller, POLL82599_RX_SET_QUIET, &none, 0, 0);
-}
+uint32_t poll82599_rx_set_quiet(struct poll82599_rx_controller *controller);
 
 /* ---- Transmit rings. */
 
 struct poll82599_tx_driver { uint8_t *end; };
 struct poll82599_tx_controller { uint8_t *end; };
 
-/* The operations of poll82599_tx_drive and poll82599_tx_serve. */
+/* The operations of poll82599_tx_drive. */
 enum poll82599_tx_driver_operation {
-    POLL82599_TX_POST = 0,
-    POLL82599_TX_SET_TAIL = 1,
-    POLL82599_TX_POLL_REPORT = 2,
-    POLL82599_TX_ASK_ENABLE = 3,
-    POLL82599_TX_STATE = 4,
-    POLL82599_TX_ASK_DISABLE = 5,
-    POLL82599_TX_CLEAN = 6,
-    POLL82599_TX_RECLAIM = 7,
-    POLL82599_TX_RENEW = 8,
-    POLL82599_TX_UNSENT = 9
+    POLL82599_TX_SET_TAIL = 0,
+    POLL82599_TX_ASK_ENABLE = 1,
+    POLL82599_TX_STATE = 2,
+    POLL82599_TX_ASK_DISABLE = 3,
+    POLL82599_TX_RECLAIM = 4,
+    POLL82599_TX_RENEW = 5,
+    POLL82599_TX_UNSENT = 6,
+    POLL82599_TX_POLL_REPORT = 7
 };
-enum poll82599_tx_controller_operation { POLL82599_TX_ANSWER = 0, POLL82599_TX_SEND = 1 };
 
 int32_t poll82599_tx_new(uint32_t descriptors, uint32_t buffers, uint32_t by_head, struct poll82599_tx_driver *driver, struct poll82599_tx_controller *controller);
-void poll82599_tx_drive(struct poll82599_tx_driver *driver, struct poll82599_call *call, const uint8_t *segment, size_t len);
-void poll82599_tx_serve(struct poll82599_tx_controller *controller, struct poll82599_call *call, uint8_t *bytes, size_t room);
+void poll82599_tx_drive(struct poll82599_tx_driver *driver, struct poll82599_call *call);
 int64_t poll82599_tx_close(struct poll82599_tx_driver *driver, struct poll82599_tx_controller *controller);
 
 /* poll82599_tx_new and poll82599_tx_close return what poll82599_rx_new and poll82599_rx_close return. The ring is off. It reports what is
  * sent by DD in its descriptors (section 7.2.3.5), or, if `by_head` is not 0, by a word in memory that holds the head. */
 
-static inline uint32_t poll82599_tx_do(struct poll82599_tx_driver *driver, struct poll82599_call *call)
+static inline uint32_t poll82599_tx_do(struct poll82599_tx_driver *driver, uint32_t operation)
 {
-    static const uint8_t none = 0;
-    poll82599_tx_drive(driver, call, &none, 0);
-    return call->answer;
-}
-
-static inline uint32_t poll82599_tx_step(struct poll82599_tx_driver *driver, uint32_t operation)
-{
-    struct poll82599_call call = {operation, 0, 0, 0, 0, 0};
-    return poll82599_tx_do(driver, &call);
+    struct poll82599_call call = {operation, 0, 0};
+    poll82599_tx_drive(driver, &call);
+    return call.answer;
 }
 
 /* ---- The driver's thread. */
@@ -310,12 +264,7 @@ static inline uint32_t poll82599_tx_step(struct poll82599_tx_driver *driver, uin
  * frame has 14 to 15,000 bytes in up to 15 segments, and fewer segments than the ring has descriptors. All its segments have the same
  * PAYLEN, the length of the whole frame; RS is allowed only with EOP. Allowed before the queue is on. Returns 1: done; 0: no free
  * descriptor, no empty buffer, or a disabling was asked for; 2: the segment cannot follow the frame so far. Only 1 posts anything. */
-static inline uint32_t poll82599_tx_post_segment(struct poll82599_tx_driver *driver, const uint8_t *bytes, size_t len, uint32_t eop, uint32_t rs, uint32_t paylen)
-{
-    struct poll82599_call call = {POLL82599_TX_POST, 0, 0, eop, rs, paylen};
-    poll82599_tx_drive(driver, &call, bytes, len);
-    return call.answer;
-}
+uint32_t poll82599_tx_post_segment(struct poll82599_tx_driver *driver, const uint8_t *bytes, size_t len, uint32_t eop, uint32_t rs, uint32_t paylen);
 
 /* Posts a frame of one segment, 14 to 2,048 bytes, with EOP and RS. Returns what poll82599_tx_post_segment returns. */
 static inline uint32_t poll82599_tx_post(struct poll82599_tx_driver *driver, const uint8_t *frame, size_t len)
@@ -324,68 +273,55 @@ static inline uint32_t poll82599_tx_post(struct poll82599_tx_driver *driver, con
 }
 
 /* Stores TDT after the last posted descriptor (section 7.2.3.4). Returns 1: done; 0: a disabling was asked for, or a frame is unfinished. */
-static inline uint32_t poll82599_tx_set_tail(struct poll82599_tx_driver *driver) { return poll82599_tx_step(driver, POLL82599_TX_SET_TAIL); }
+static inline uint32_t poll82599_tx_set_tail(struct poll82599_tx_driver *driver) { return poll82599_tx_do(driver, POLL82599_TX_SET_TAIL); }
 
 /* Loads the oldest report that is outstanding (section 7.2.3.5). Returns 1: it is made, and so are all before it; 0: it is not made, none
  * is outstanding, or the queue was not seen on. */
-static inline uint32_t poll82599_tx_poll_report(struct poll82599_tx_driver *driver) { return poll82599_tx_step(driver, POLL82599_TX_POLL_REPORT); }
+static inline uint32_t poll82599_tx_poll_report(struct poll82599_tx_driver *driver) { return poll82599_tx_do(driver, POLL82599_TX_POLL_REPORT); }
 
 /* Asks for the queue to be enabled (section 4.6.8). The controller has to answer. Returns 1: done; 0: this was asked before, and the
  * ring was not renewed since. */
-static inline uint32_t poll82599_tx_ask_enable(struct poll82599_tx_driver *driver) { return poll82599_tx_step(driver, POLL82599_TX_ASK_ENABLE); }
+static inline uint32_t poll82599_tx_ask_enable(struct poll82599_tx_driver *driver) { return poll82599_tx_do(driver, POLL82599_TX_ASK_ENABLE); }
 
 /* Loads and returns the control word: POLL82599_ON once an enabling is answered, POLL82599_OFF in a new ring and once a disabling is
  * answered. Only by this call does the driver learn of an answer. */
-static inline uint32_t poll82599_tx_state(struct poll82599_tx_driver *driver) { return poll82599_tx_step(driver, POLL82599_TX_STATE); }
+static inline uint32_t poll82599_tx_state(struct poll82599_tx_driver *driver) { return poll82599_tx_do(driver, POLL82599_TX_STATE); }
 
 /* Asks for the queue to be disabled. The controller has to answer. Returns 1: done; 0: poll82599_tx_state did not return POLL82599_ON
  * yet, or this was asked before. */
-static inline uint32_t poll82599_tx_ask_disable(struct poll82599_tx_driver *driver) { return poll82599_tx_step(driver, POLL82599_TX_ASK_DISABLE); }
+static inline uint32_t poll82599_tx_ask_disable(struct poll82599_tx_driver *driver) { return poll82599_tx_do(driver, POLL82599_TX_ASK_DISABLE); }
 
 /* Takes back the buffer of the oldest descriptor that poll82599_tx_poll_report has found reported. Returns 1: done; 0: there is none, or
  * the queue is off. */
-static inline uint32_t poll82599_tx_clean(struct poll82599_tx_driver *driver) { return poll82599_tx_step(driver, POLL82599_TX_CLEAN); }
+uint32_t poll82599_tx_clean(struct poll82599_tx_driver *driver);
 
 /* After the driver saw its disabling answered: loads TDH and puts into `*left` how many segments were posted and not sent. The number is
  * final. Returns 1: done; 2: no disabling was seen answered. */
 static inline uint32_t poll82599_tx_unsent(struct poll82599_tx_driver *driver, uint32_t *left)
 {
-    struct poll82599_call call = {POLL82599_TX_UNSENT, 0, 0, 0, 0, 0};
-    uint32_t answer = poll82599_tx_do(driver, &call);
-    *left = call.len;
-    return answer;
+    struct poll82599_call call = {POLL82599_TX_UNSENT, 0, 0};
+    poll82599_tx_drive(driver, &call);
+    *left = (uint32_t)call.count;
+    return call.answer;
 }
 
 /* Takes back the oldest buffer that is still in the disabled ring. Returns 1: done; 0: none is left; 2: no disabling was seen answered. */
-static inline uint32_t poll82599_tx_reclaim(struct poll82599_tx_driver *driver) { return poll82599_tx_step(driver, POLL82599_TX_RECLAIM); }
+static inline uint32_t poll82599_tx_reclaim(struct poll82599_tx_driver *driver) { return poll82599_tx_do(driver, POLL82599_TX_RECLAIM); }
 
 /* Clears the registers of a disabled queue from which all buffers are back. The ring is then as new: off, and it can be enabled again.
  * Returns 1: done; 0: no disabling was seen answered, or a buffer is still in the ring. */
-static inline uint32_t poll82599_tx_renew(struct poll82599_tx_driver *driver) { return poll82599_tx_step(driver, POLL82599_TX_RENEW); }
+static inline uint32_t poll82599_tx_renew(struct poll82599_tx_driver *driver) { return poll82599_tx_do(driver, POLL82599_TX_RENEW); }
 
 /* ---- The controller's thread. */
 
 /* Loads the control word, and answers what the driver asks. Returns 1: an enabling or a disabling is now answered; 0: nothing was asked,
  * or a disabling has to wait until the unfinished frame is sent. */
-static inline uint32_t poll82599_tx_answer(struct poll82599_tx_controller *controller)
-{
-    struct poll82599_call call = {POLL82599_TX_ANSWER, 0, 0, 0, 0, 0};
-    uint8_t none = 0;
-    poll82599_tx_serve(controller, &call, &none, 0);
-    return call.answer;
-}
+uint32_t poll82599_tx_answer(struct poll82599_tx_controller *controller);
 
 /* Sends the next segment, in the order in which they were posted, and reports it if it asks for a report. Returns 1: its bytes are at the
  * beginning of `bytes`, its length in `*len` and its EOP in `*eop`; 0: none is ready; 3: the queue is off; 4: `room` is below 2,048.
  * Only 1 sends a segment or writes to `bytes`. */
-static inline uint32_t poll82599_tx_send(struct poll82599_tx_controller *controller, uint8_t *bytes, size_t room, uint32_t *len, uint32_t *eop)
-{
-    struct poll82599_call call = {POLL82599_TX_SEND, 0, 0, 0, 0, 0};
-    poll82599_tx_serve(controller, &call, bytes, room);
-    *len = call.len;
-    *eop = call.eop;
-    return call.answer;
-}
+uint32_t poll82599_tx_send(struct poll82599_tx_controller *controller, uint8_t *bytes, size_t room, uint32_t *len, uint32_t *eop);
 
 /* ---- Packets and batches, in the manner of ixy and of an ixgbe driver.
  *
@@ -406,13 +342,6 @@ struct poll82599_tx_device { uint8_t *end; };
 enum {
     POLL82599_MOST_BATCH = 32,      /* packets in a batch, and in a worker's list */
     POLL82599_MOST_RS_EVERY = 4096 /* frames of which one asks for a report */
-};
-
-/* The operation that a queue or a pool makes, its result, and a count of buffers or segments. */
-struct poll82599_batch {
-    uint32_t operation;
-    uint32_t answer;
-    size_t count; /* to poll82599_pool_move: how many buffers to return */
 };
 
 /* The counts of a receive device: each frame in `offered` was stored, dropped or oversize. */
@@ -453,7 +382,7 @@ uint32_t poll82599_packet_measure(struct poll82599_packets *packets, size_t pack
 uint32_t poll82599_packets_measure(struct poll82599_packets *packets, size_t *count, size_t *empty);
 size_t poll82599_packets_close(struct poll82599_packets *packets);
 int32_t poll82599_pool_new(uint32_t buffers, struct poll82599_pool *pool);
-void poll82599_pool_move(struct poll82599_packets *packets, struct poll82599_pool *pool, struct poll82599_batch *call);
+void poll82599_pool_move(struct poll82599_packets *packets, struct poll82599_pool *pool, struct poll82599_call *call);
 size_t poll82599_pool_count(struct poll82599_pool *pool);
 size_t poll82599_pool_close(struct poll82599_pool *pool);
 int32_t poll82599_counters_new(struct poll82599_counters *counters);
@@ -463,11 +392,11 @@ uint32_t poll82599_counters_get(struct poll82599_counters *reader, size_t at, ui
 int64_t poll82599_counters_close(struct poll82599_counters *counters);
 int32_t poll82599_rx_queue_new(uint32_t descriptors, size_t batch, size_t fill, uint32_t drop_en, struct poll82599_rx_queue *queue, struct poll82599_rx_device *device);
 uint32_t poll82599_rx_queue_batch(struct poll82599_rx_queue *queue, struct poll82599_packets *packets, size_t *count, size_t *posted);
-void poll82599_rx_queue_do(struct poll82599_rx_queue *queue, struct poll82599_batch *call);
+void poll82599_rx_queue_do(struct poll82599_rx_queue *queue, struct poll82599_call *call);
 int64_t poll82599_rx_queue_close(struct poll82599_rx_queue *queue, struct poll82599_rx_device *device);
 int32_t poll82599_tx_queue_new(uint32_t descriptors, uint16_t every, uint32_t by_head, struct poll82599_tx_queue *queue, struct poll82599_tx_device *device);
 uint32_t poll82599_tx_queue_batch(struct poll82599_tx_queue *queue, struct poll82599_packets *packets, size_t *count, size_t *cleaned);
-void poll82599_tx_queue_do(struct poll82599_tx_queue *queue, struct poll82599_batch *call);
+void poll82599_tx_queue_do(struct poll82599_tx_queue *queue, struct poll82599_call *call);
 int64_t poll82599_tx_queue_close(struct poll82599_tx_queue *queue, struct poll82599_tx_device *device);
 
 /* poll82599_packets_new makes a worker's packets: no packet, and `buffers` empty buffers. Returns 0: done; 2: no memory; 3: `buffers` is
@@ -542,7 +471,7 @@ static inline size_t poll82599_packets_count(struct poll82599_packets *packets, 
 
 static inline uint32_t poll82599_pool_step(struct poll82599_packets *packets, struct poll82599_pool *pool, uint32_t operation, size_t wanted, size_t *count)
 {
-    struct poll82599_batch call = {operation, 0, wanted};
+    struct poll82599_call call = {operation, 0, wanted};
     poll82599_pool_move(packets, pool, &call);
     if (count)
         *count = call.count;
@@ -570,7 +499,7 @@ static inline uint32_t poll82599_packets_return(struct poll82599_packets *packet
 
 static inline uint32_t poll82599_rx_queue_step(struct poll82599_rx_queue *queue, uint32_t operation, size_t *count)
 {
-    struct poll82599_batch call = {operation, 0, 0};
+    struct poll82599_call call = {operation, 0, 0};
     poll82599_rx_queue_do(queue, &call);
     if (count)
         *count = call.count;
@@ -620,7 +549,7 @@ static inline uint32_t poll82599_rx_queue_is_quiet(struct poll82599_rx_queue *qu
 
 static inline uint32_t poll82599_tx_queue_step(struct poll82599_tx_queue *queue, uint32_t operation, size_t *count)
 {
-    struct poll82599_batch call = {operation, 0, 0};
+    struct poll82599_call call = {operation, 0, 0};
     poll82599_tx_queue_do(queue, &call);
     if (count)
         *count = call.count;

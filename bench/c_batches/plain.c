@@ -97,7 +97,7 @@ int32_t poll82599_tx_queue_new(uint32_t descriptors, uint16_t every, uint32_t by
 }
 
 /* The driver asks for the enabling, or learns whether it is answered. */
-static void enable(struct ring *ring, struct poll82599_batch *call)
+static void enable(struct ring *ring, struct poll82599_call *call)
 {
     uint32_t word = atomic_load(&ring->control);
     if (word == POLL82599_OFF)
@@ -105,8 +105,8 @@ static void enable(struct ring *ring, struct poll82599_batch *call)
     call->answer = ring->is_on = word == POLL82599_ON;
 }
 
-void poll82599_rx_queue_do(struct poll82599_rx_queue *queue, struct poll82599_batch *call) { enable((struct ring *)queue->end, call); }
-void poll82599_tx_queue_do(struct poll82599_tx_queue *queue, struct poll82599_batch *call) { enable((struct ring *)queue->end, call); }
+void poll82599_rx_queue_do(struct poll82599_rx_queue *queue, struct poll82599_call *call) { enable((struct ring *)queue->end, call); }
+void poll82599_tx_queue_do(struct poll82599_tx_queue *queue, struct poll82599_call *call) { enable((struct ring *)queue->end, call); }
 
 /* The device answers the enabling. */
 static uint32_t answer(struct ring *ring)

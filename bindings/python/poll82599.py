@@ -38,10 +38,6 @@ class _Handle(Structure):
 
 
 class _Call(Structure):
-    _fields_ = [(name, c_uint32) for name in ("operation", "answer", "len", "eop", "rs", "paylen")]
-
-
-class _Batch(Structure):
     _fields_ = [("operation", c_uint32), ("answer", c_uint32), ("count", c_size_t)]
 
 
@@ -68,12 +64,19 @@ def _loaded():
     read, write = ctypes.c_char_p, POINTER(c_uint8)
     prototypes = {
         "rx_new": (c_int32, c_uint32, c_uint32, handle, handle),
-        "rx_drive": (None, handle, POINTER(_Call), write, size),
-        "rx_serve": (None, handle, POINTER(_Call), read, size),
+        "rx_post": (c_uint32, handle),
+        "rx_poll": (c_uint32, handle, write, size, POINTER(c_uint32), POINTER(c_uint32)),
+        "rx_drive": (None, handle, POINTER(_Call)),
+        "rx_store_segment": (c_uint32, handle, read, size, c_uint32),
+        "rx_answer": (c_uint32, handle),
+        "rx_set_quiet": (c_uint32, handle),
         "rx_close": (c_int64, handle, handle),
         "tx_new": (c_int32, c_uint32, c_uint32, c_uint32, handle, handle),
-        "tx_drive": (None, handle, POINTER(_Call), read, size),
-        "tx_serve": (None, handle, POINTER(_Call), write, size),
+        "tx_post_segment": (c_uint32, handle, read, size, c_uint32, c_uint32, c_uint32),
+        "tx_clean": (c_uint32, handle),
+        "tx_drive": (None, handle, POINTER(_Call)),
+        "tx_send": (c_uint32, handle, write, size, POINTER(c_uint32), POINTER(c_uint32)),
+        "tx_answer": (c_uint32, handle),
         "tx_close": (c_int64, handle, handle),
         "packets_new": (c_int32, c_uint32, handle),
         "packets_put": (c_uint32, handle, read, size),
@@ -88,7 +91,7 @@ def _loaded():
         "packets_measure": (c_uint32, handle, POINTER(size), POINTER(size)),
         "packets_close": (size, handle),
         "pool_new": (c_int32, c_uint32, handle),
-        "pool_move": (None, handle, handle, POINTER(_Batch)),
+        "pool_move": (None, handle, handle, POINTER(_Call)),
         "pool_count": (size, handle),
         "pool_close": (size, handle),
         "counters_new": (c_int32, handle),
@@ -99,7 +102,7 @@ def _loaded():
         "rx_queue_new": (c_int32, c_uint32, size, size, c_uint32, handle, handle),
         "rx_queue_batch": (c_uint32, handle, handle, POINTER(size), POINTER(size)),
         "rx_queue_reclaim": (c_uint32, handle, handle, POINTER(size)),
-        "rx_queue_do": (None, handle, POINTER(_Batch)),
+        "rx_queue_do": (None, handle, POINTER(_Call)),
         "offer": (c_uint32, handle, read, size),
         "rx_device_control": (c_uint32, handle),
         "rx_device_finish": (c_uint32, handle),
@@ -109,7 +112,7 @@ def _loaded():
         "tx_queue_batch": (c_uint32, handle, handle, POINTER(size), POINTER(size)),
         "tx_queue_clean": (c_uint32, handle, handle, POINTER(size)),
         "tx_queue_reclaim": (c_uint32, handle, handle, POINTER(size)),
-        "tx_queue_do": (None, handle, POINTER(_Batch)),
+        "tx_queue_do": (None, handle, POINTER(_Call)),
         "turn": (c_uint32, handle, write, size, POINTER(size)),
         "tx_device_control": (c_uint32, handle),
         "tx_queue_close": (c_int64, handle, handle),
@@ -167,6 +170,13 @@ def close(driver, device):
     return in_ring
 
 
+def _handed(call, handle, **refusals):
+    """The segment that a call hands out, as its bytes and EOP, or None if there is none."""
+    room, count, eop = _room(BUFFER_BYTES), c_uint32(), c_uint32()
+    answer = _calls[call](byref(handle), room, len(room), byref(count), byref(eop))
+    return (bytes(room[: count.value]), bool(eop.value)) if _done(answer, **refusals) else None
+
+
 class _Driver:
     """The calls that drivers of both directions have. Each returns whether it was done."""
 
@@ -174,55 +184,50 @@ class _Driver:
         self._pair = pair
 
     def set_tail(self):
-        return _done(self._step(1))
+        return _done(self._step(0).answer)
 
     def ask_enable(self):
-        return _done(self._step(3))
+        return _done(self._step(1).answer)
 
     def state(self):
         """Loads the control word: OFF, ENABLE_ASKED, ON or DISABLE_ASKED."""
-        return self._step(4)
+        return self._step(2).answer
 
     def ask_disable(self):
-        return _done(self._step(5))
+        return _done(self._step(3).answer)
 
     def reclaim(self):
-        return _done(self._step(7), _2="not disabled")
+        return _done(self._step(4).answer, _2="not disabled")
 
     def renew(self):
-        return _done(self._step(8))
+        return _done(self._step(5).answer)
 
     def _left(self):
-        call = self._call(_Call(operation=9))
-        return call.len if _done(call.answer, _2="not disabled") else None
+        call = self._step(6)
+        return call.count if _done(call.answer, _2="not disabled") else None
 
     def _step(self, operation):
-        return self._call(_Call(operation=operation)).answer
+        call = _Call(operation=operation)
+        _calls[self._DRIVE](byref(self._pair.driver), byref(call))
+        return call
 
 
 class RxDriver(_Driver):
+    _DRIVE = "rx_drive"
+
     def post(self):
-        return _done(self._step(0))
+        return _done(_calls["rx_post"](byref(self._pair.driver)))
 
     def poll(self):
         """The next segment, as its bytes and EOP, or None if it is not there yet."""
-        room = _room(BUFFER_BYTES)
-        call = self._call(_Call(operation=2), room)
-        if _done(call.answer, _2="nothing posted", _3="not on"):
-            return bytes(room[: call.len]), bool(call.eop)
-        return None
+        return _handed("rx_poll", self._pair.driver, _2="nothing posted", _3="not on")
 
     def is_quiet(self):
-        return _done(self._step(6))
+        return _done(self._step(7).answer)
 
     def untaken(self):
         """How many segments were stored and not taken, or None once a buffer was reclaimed."""
         return self._left()
-
-    def _call(self, call, room=None):
-        room = room or _room(0)
-        _calls["rx_drive"](byref(self._pair.driver), byref(call), room, len(room))
-        return call
 
 
 class RxController:
@@ -230,41 +235,35 @@ class RxController:
         self._pair = pair
 
     def answer(self):
-        return _done(self._call(0))
+        return _done(_calls["rx_answer"](byref(self._pair.device)))
 
     def store(self, segment, eop=True):
         """Stores a segment. False: no descriptor is free."""
-        return _done(self._call(1, bytes(segment), eop), _2="unfit", _3="not on")
+        segment = bytes(segment)
+        return _done(_calls["rx_store_segment"](byref(self._pair.device), segment, len(segment), eop), _2="unfit", _3="not on")
 
     def set_quiet(self):
-        return _done(self._call(2))
-
-    def _call(self, operation, segment=b"", eop=False):
-        call = _Call(operation=operation, eop=eop)
-        _calls["rx_serve"](byref(self._pair.device), byref(call), segment, len(segment))
-        return call.answer
+        return _done(_calls["rx_set_quiet"](byref(self._pair.device)))
 
 
 class TxDriver(_Driver):
+    _DRIVE = "tx_drive"
+
     def post(self, segment, eop=True, rs=True, paylen=None):
         """Posts a segment of a frame of `paylen` bytes, by default one that is the whole frame. False: no room now."""
         segment = bytes(segment)
-        call = _Call(operation=0, eop=eop, rs=rs, paylen=len(segment) if paylen is None else paylen)
-        return _done(self._call(call, segment).answer, _2="unfit")
+        paylen = len(segment) if paylen is None else paylen
+        return _done(_calls["tx_post_segment"](byref(self._pair.driver), segment, len(segment), eop, rs, paylen), _2="unfit")
 
     def poll_report(self):
-        return _done(self._step(2))
+        return _done(self._step(7).answer)
 
     def clean(self):
-        return _done(self._step(6))
+        return _done(_calls["tx_clean"](byref(self._pair.driver)))
 
     def unsent(self):
         """How many segments were posted and not sent."""
         return self._left()
-
-    def _call(self, call, segment=b""):
-        _calls["tx_drive"](byref(self._pair.driver), byref(call), segment, len(segment))
-        return call
 
 
 class TxController:
@@ -272,18 +271,11 @@ class TxController:
         self._pair = pair
 
     def answer(self):
-        return _done(self._call(0, _room(0)).answer)
+        return _done(_calls["tx_answer"](byref(self._pair.device)))
 
     def send(self):
         """The next segment, as its bytes and EOP, or None if none is ready."""
-        room = _room(BUFFER_BYTES)
-        call = self._call(1, room)
-        return (bytes(room[: call.len]), bool(call.eop)) if _done(call.answer, _3="not on") else None
-
-    def _call(self, operation, room):
-        call = _Call(operation=operation)
-        _calls["tx_serve"](byref(self._pair.device), byref(call), room, len(room))
-        return call
+        return _handed("tx_send", self._pair.device, _3="not on")
 
 
 class Packets:
@@ -350,11 +342,11 @@ class Packets:
 
     def refill(self, pool):
         """Takes empty buffers from a pool until the worker has 256 or the pool is empty. Returns how many."""
-        return self._supplied(pool, _Batch(operation=0))
+        return self._supplied(pool, _Call(operation=0))
 
     def give_back(self, pool, wanted):
         """Returns up to `wanted` empty buffers to a pool. Returns how many."""
-        return self._supplied(pool, _Batch(operation=1, count=wanted))
+        return self._supplied(pool, _Call(operation=1, count=wanted))
 
     def _supplied(self, pool, call):
         _calls["pool_move"](byref(self._handle), byref(pool._handle), byref(call))
@@ -457,7 +449,7 @@ class _Queue:
         return count, _done(answer, _2="not disabled")
 
     def _step(self, operation):
-        call = _Batch(operation=operation)
+        call = _Call(operation=operation)
         _calls[f"{self._kind}_do"](byref(self._pair.driver), byref(call))
         return call
 

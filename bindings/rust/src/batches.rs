@@ -1,6 +1,6 @@
 //! Queues in batches, as an ixgbe driver uses them, and devices that take and send whole frames.
 
-use crate::ffi::{self, Batch, Ends, Handle, Offered};
+use crate::ffi::{self, Call, Ends, Handle, Offered};
 use crate::results::{MakeError, Refusal, State, is_done, unanswered};
 use crate::rings::Completion;
 use std::cell::UnsafeCell;
@@ -233,16 +233,16 @@ impl Packets {
 
     /// Takes empty buffers from a pool until the worker has 256 or the pool is empty. Returns how many.
     pub fn refill(&mut self, pool: &mut Pool) -> usize {
-        self.supplied(pool, Batch { operation: 0, ..Batch::default() })
+        self.supplied(pool, Call { operation: 0, ..Call::default() })
     }
 
     /// Returns empty buffers to a pool: `wanted`, but at most those that the worker has and those that the pool has room for.
     /// Returns how many.
     pub fn give_back(&mut self, pool: &mut Pool, wanted: usize) -> usize {
-        self.supplied(pool, Batch { operation: 1, count: wanted, ..Batch::default() })
+        self.supplied(pool, Call { operation: 1, count: wanted, ..Call::default() })
     }
 
-    fn supplied(&mut self, pool: &mut Pool, mut call: Batch) -> usize {
+    fn supplied(&mut self, pool: &mut Pool, mut call: Call) -> usize {
         // SAFETY: both handles are full, and only this call uses them.
         unsafe { ffi::poll82599_pool_move(self.handle.get(), pool.handle.get(), &mut call) };
         if is_done(call.answer) { call.count } else { 0 }
@@ -357,7 +357,7 @@ impl RxQueue {
     }
 
     fn step(&mut self, operation: u32) -> (u32, usize) {
-        let mut call = Batch { operation, ..Batch::default() };
+        let mut call = Call { operation, ..Call::default() };
         // SAFETY: the handle is full, and only this side uses it.
         unsafe { ffi::poll82599_rx_queue_do(self.ends.driver(), &mut call) };
         (call.answer, call.count)
@@ -414,7 +414,7 @@ impl TxQueue {
     }
 
     fn step(&mut self, operation: u32) -> (u32, usize) {
-        let mut call = Batch { operation, ..Batch::default() };
+        let mut call = Call { operation, ..Call::default() };
         // SAFETY: the handle is full, and only this side uses it.
         unsafe { ffi::poll82599_tx_queue_do(self.ends.driver(), &mut call) };
         (call.answer, call.count)

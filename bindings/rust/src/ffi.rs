@@ -21,18 +21,6 @@ impl Handle {
 pub struct Call {
     pub operation: u32,
     pub answer: u32,
-    pub len: u32,
-    pub eop: u32,
-    pub rs: u32,
-    pub paylen: u32,
-}
-
-/// `struct poll82599_batch`.
-#[repr(C)]
-#[derive(Default)]
-pub struct Batch {
-    pub operation: u32,
-    pub answer: u32,
     pub count: usize,
 }
 
@@ -80,12 +68,19 @@ pub type Close = unsafe extern "C" fn(*mut Handle, *mut Handle) -> i64;
 
 unsafe extern "C" {
     pub fn poll82599_rx_new(descriptors: u32, buffers: u32, driver: *mut Handle, controller: *mut Handle) -> i32;
-    pub fn poll82599_rx_drive(driver: *mut Handle, call: *mut Call, bytes: *mut u8, room: usize);
-    pub fn poll82599_rx_serve(controller: *mut Handle, call: *mut Call, segment: *const u8, len: usize);
+    pub fn poll82599_rx_post(driver: *mut Handle) -> u32;
+    pub fn poll82599_rx_poll(driver: *mut Handle, bytes: *mut u8, room: usize, len: *mut u32, eop: *mut u32) -> u32;
+    pub fn poll82599_rx_drive(driver: *mut Handle, call: *mut Call);
+    pub fn poll82599_rx_store_segment(controller: *mut Handle, bytes: *const u8, len: usize, eop: u32) -> u32;
+    pub fn poll82599_rx_answer(controller: *mut Handle) -> u32;
+    pub fn poll82599_rx_set_quiet(controller: *mut Handle) -> u32;
     pub fn poll82599_rx_close(driver: *mut Handle, controller: *mut Handle) -> i64;
     pub fn poll82599_tx_new(descriptors: u32, buffers: u32, by_head: u32, driver: *mut Handle, controller: *mut Handle) -> i32;
-    pub fn poll82599_tx_drive(driver: *mut Handle, call: *mut Call, segment: *const u8, len: usize);
-    pub fn poll82599_tx_serve(controller: *mut Handle, call: *mut Call, bytes: *mut u8, room: usize);
+    pub fn poll82599_tx_post_segment(driver: *mut Handle, bytes: *const u8, len: usize, eop: u32, rs: u32, paylen: u32) -> u32;
+    pub fn poll82599_tx_clean(driver: *mut Handle) -> u32;
+    pub fn poll82599_tx_drive(driver: *mut Handle, call: *mut Call);
+    pub fn poll82599_tx_send(controller: *mut Handle, bytes: *mut u8, room: usize, len: *mut u32, eop: *mut u32) -> u32;
+    pub fn poll82599_tx_answer(controller: *mut Handle) -> u32;
     pub fn poll82599_tx_close(driver: *mut Handle, controller: *mut Handle) -> i64;
     pub fn poll82599_packets_new(buffers: u32, packets: *mut Handle) -> i32;
     pub fn poll82599_packets_put(packets: *mut Handle, frame: *const u8, len: usize) -> u32;
@@ -101,7 +96,7 @@ unsafe extern "C" {
     pub fn poll82599_packets_measure(packets: *mut Handle, count: *mut usize, empty: *mut usize) -> u32;
     pub fn poll82599_packets_close(packets: *mut Handle) -> usize;
     pub fn poll82599_pool_new(buffers: u32, pool: *mut Handle) -> i32;
-    pub fn poll82599_pool_move(packets: *mut Handle, pool: *mut Handle, call: *mut Batch);
+    pub fn poll82599_pool_move(packets: *mut Handle, pool: *mut Handle, call: *mut Call);
     pub fn poll82599_pool_count(pool: *mut Handle) -> usize;
     pub fn poll82599_pool_close(pool: *mut Handle) -> usize;
     pub fn poll82599_counters_new(counters: *mut Handle) -> i32;
@@ -119,7 +114,7 @@ unsafe extern "C" {
     ) -> i32;
     pub fn poll82599_rx_queue_batch(queue: *mut Handle, packets: *mut Handle, count: *mut usize, posted: *mut usize) -> u32;
     pub fn poll82599_rx_queue_reclaim(queue: *mut Handle, packets: *mut Handle, count: *mut usize) -> u32;
-    pub fn poll82599_rx_queue_do(queue: *mut Handle, call: *mut Batch);
+    pub fn poll82599_rx_queue_do(queue: *mut Handle, call: *mut Call);
     pub fn poll82599_offer(device: *mut Handle, frame: *const u8, len: usize) -> u32;
     pub fn poll82599_rx_device_control(device: *mut Handle) -> u32;
     pub fn poll82599_rx_device_finish(device: *mut Handle) -> u32;
@@ -129,7 +124,7 @@ unsafe extern "C" {
     pub fn poll82599_tx_queue_batch(queue: *mut Handle, packets: *mut Handle, count: *mut usize, cleaned: *mut usize) -> u32;
     pub fn poll82599_tx_queue_clean(queue: *mut Handle, packets: *mut Handle, count: *mut usize) -> u32;
     pub fn poll82599_tx_queue_reclaim(queue: *mut Handle, packets: *mut Handle, count: *mut usize) -> u32;
-    pub fn poll82599_tx_queue_do(queue: *mut Handle, call: *mut Batch);
+    pub fn poll82599_tx_queue_do(queue: *mut Handle, call: *mut Call);
     pub fn poll82599_turn(device: *mut Handle, bytes: *mut u8, room: usize, len: *mut usize) -> u32;
     pub fn poll82599_tx_device_control(device: *mut Handle) -> u32;
     pub fn poll82599_tx_queue_close(queue: *mut Handle, device: *mut Handle) -> i64;

@@ -1,6 +1,6 @@
 //! Rings segment by segment: each call makes the steps that `docs/LIBRARY.md` lists for it.
 
-use crate::ffi::{self, Call, Ends};
+use crate::ffi::{self, Call, Ends, Handle};
 use crate::results::{MakeError, Refusal, State, is_done, unanswered};
 use std::sync::Arc;
 
@@ -110,34 +110,41 @@ impl TxRing {
     }
 }
 
-/// The calls that drivers of both directions have, by the numbers of their operations.
+/// The segment that a call hands out into `room`, with the call's answer.
+fn handed(room: &mut [u8; BUFFER_BYTES], call: impl FnOnce(*mut u8, usize, *mut u32, *mut u32) -> u32) -> (u32, Segment<'_>) {
+    let (mut len, mut eop) = (0, 0);
+    let answer = call(room.as_mut_ptr(), room.len(), &mut len, &mut eop);
+    (answer, Segment { bytes: &room[..len as usize], eop: eop != 0 })
+}
+
+/// The calls that drivers of both directions have.
 macro_rules! driver_calls {
-    ($driver:ident, $head:literal: publish $publish:literal, enable $enable:literal, state $state:literal, disable $disable:literal, reclaim $reclaim:literal, renew $renew:literal) => {
+    ($driver:ident, $head:literal, $drive:path) => {
         impl $driver {
             #[doc = concat!("Publishes all that is posted: stores ", $head, ". Returns false if a disabling was asked for")]
             /// or a frame to be sent is unfinished.
             pub fn set_tail(&mut self) -> bool {
-                is_done(self.step($publish))
+                is_done(self.step(0).answer)
             }
 
             /// Asks for the queue to be enabled. Returns false if this was asked before and the ring was not renewed since.
             pub fn ask_enable(&mut self) -> bool {
-                is_done(self.step($enable))
+                is_done(self.step(1).answer)
             }
 
             /// Loads the control word. Only by this call does the driver learn of an answer.
             pub fn state(&mut self) -> State {
-                State::of(self.step($state))
+                State::of(self.step(2).answer)
             }
 
             /// Asks for the queue to be disabled. Returns false if the queue was not seen on, or this was asked before.
             pub fn ask_disable(&mut self) -> bool {
-                is_done(self.step($disable))
+                is_done(self.step(3).answer)
             }
 
             /// Takes back the oldest buffer in the disabled ring. Returns false if none is left.
             pub fn reclaim(&mut self) -> Result<bool, Refusal> {
-                match self.step($reclaim) {
+                match self.step(4).answer {
                     2 => Err(Refusal::NotDisabled),
                     answer => Ok(is_done(answer)),
                 }
@@ -146,63 +153,70 @@ macro_rules! driver_calls {
             /// Makes a disabled ring from which all buffers are back as new. Returns false if no disabling was seen
             /// answered, or a buffer is still in the ring.
             pub fn renew(&mut self) -> bool {
-                is_done(self.step($renew))
+                is_done(self.step(5).answer)
+            }
+
+            /// How many segments are left in the disabled ring. Returns `None` once a buffer of a receive ring was reclaimed.
+            fn left(&mut self) -> Result<Option<u32>, Refusal> {
+                let call = self.step(6);
+                match call.answer {
+                    1 => Ok(Some(call.count as u32)),
+                    0 => Ok(None),
+                    2 => Err(Refusal::NotDisabled),
+                    other => unanswered(other),
+                }
+            }
+
+            fn handle(&self) -> *mut Handle {
+                self.ends.driver()
+            }
+
+            fn step(&mut self, operation: u32) -> Call {
+                let mut call = Call { operation, ..Call::default() };
+                // SAFETY: the handle is full, and only this end uses it.
+                unsafe { $drive(self.handle(), &mut call) };
+                call
             }
         }
     };
 }
 
-driver_calls!(RxDriver, "RDT": publish 1, enable 3, state 4, disable 5, reclaim 7, renew 8);
-driver_calls!(TxDriver, "TDT": publish 1, enable 3, state 4, disable 5, reclaim 7, renew 8);
+driver_calls!(RxDriver, "RDT", ffi::poll82599_rx_drive);
+driver_calls!(TxDriver, "TDT", ffi::poll82599_tx_drive);
 
 impl RxDriver {
     /// Posts an empty buffer in the next descriptor. Returns false if no descriptor is free, no empty buffer is left, or a
     /// disabling was asked for.
     pub fn post(&mut self) -> bool {
-        is_done(self.step(0))
+        // SAFETY: the handle is full, and only this end uses it.
+        is_done(unsafe { ffi::poll82599_rx_post(self.handle()) })
     }
 
     /// Takes the next segment, in the order in which they were stored. Returns `None` if the next descriptor has no DD yet.
     ///
     /// Returns `NothingPosted` or `NotOn` without a step.
     pub fn poll<'a>(&mut self, room: &'a mut [u8; BUFFER_BYTES]) -> Result<Option<Segment<'a>>, Refusal> {
-        let call = self.call(2, room);
-        match call.answer {
-            1 => Ok(Some(Segment { bytes: &room[..call.len as usize], eop: call.eop != 0 })),
-            0 => Ok(None),
-            2 => Err(Refusal::NothingPosted),
-            3 => Err(Refusal::NotOn),
-            other => unanswered(other),
+        // SAFETY: the handle is full, only this end uses it, and the room has its length.
+        let poll = |bytes, room, len, eop| unsafe { ffi::poll82599_rx_poll(self.handle(), bytes, room, len, eop) };
+        match handed(room, poll) {
+            (1, segment) => Ok(Some(segment)),
+            (0, _) => Ok(None),
+            (2, _) => Err(Refusal::NothingPosted),
+            (3, _) => Err(Refusal::NotOn),
+            (other, _) => unanswered(other),
         }
     }
 
     /// Loads the quiet word: whether the controller said that it stores no more. If it did and `poll` then takes nothing,
     /// all that was stored has been taken.
     pub fn is_quiet(&mut self) -> bool {
-        is_done(self.step(6))
+        is_done(self.step(7).answer)
     }
 
     /// Loads RDH of a disabled ring: how many segments were stored and not taken. Returns `None` once a buffer was
     /// reclaimed.
     pub fn untaken(&mut self) -> Result<Option<u32>, Refusal> {
-        let call = self.call(9, &mut []);
-        match call.answer {
-            1 => Ok(Some(call.len)),
-            0 => Ok(None),
-            2 => Err(Refusal::NotDisabled),
-            other => unanswered(other),
-        }
-    }
-
-    fn step(&mut self, operation: u32) -> u32 {
-        self.call(operation, &mut []).answer
-    }
-
-    fn call(&mut self, operation: u32, room: &mut [u8]) -> Call {
-        let mut call = Call { operation, ..Call::default() };
-        // SAFETY: the handle is full, only this end uses it, and the room has its length.
-        unsafe { ffi::poll82599_rx_drive(self.ends.driver(), &mut call, room.as_mut_ptr(), room.len()) };
-        call
+        self.left()
     }
 }
 
@@ -210,7 +224,8 @@ impl RxController {
     /// Loads the control word, and answers what the driver asks. Returns false if nothing was asked, or a disabling has to
     /// wait for the end of a frame.
     pub fn answer(&mut self) -> bool {
-        is_done(self.call(0, &[], false))
+        // SAFETY: the handle is full, and only this end uses it.
+        is_done(unsafe { ffi::poll82599_rx_answer(self.ends.device()) })
     }
 
     /// Stores a frame of one segment, 14 to 2,048 bytes. Returns false if no descriptor is free.
@@ -224,7 +239,8 @@ impl RxController {
     /// Stores a segment of 1 to 2,048 bytes, which ends its frame if `eop`. A frame has 14 to 15,000 bytes in up to 15
     /// segments, and fewer segments than the ring has descriptors. Refuses as `store`.
     pub fn store_segment(&mut self, bytes: &[u8], eop: bool) -> Result<bool, Refusal> {
-        match self.call(1, bytes, eop) {
+        // SAFETY: the handle is full, only this end uses it, and the segment has its length.
+        match unsafe { ffi::poll82599_rx_store_segment(self.ends.device(), bytes.as_ptr(), bytes.len(), u32::from(eop)) } {
             2 => Err(Refusal::Unfit),
             3 => Err(Refusal::NotOn),
             answer => Ok(is_done(answer)),
@@ -234,14 +250,8 @@ impl RxController {
     /// Says that no more is stored until the queue is enabled again. Returns false if the queue is off or a frame is
     /// unfinished.
     pub fn set_quiet(&mut self) -> bool {
-        is_done(self.call(2, &[], false))
-    }
-
-    fn call(&mut self, operation: u32, segment: &[u8], eop: bool) -> u32 {
-        let mut call = Call { operation, eop: u32::from(eop), ..Call::default() };
-        // SAFETY: the handle is full, only this end uses it, and the segment has its length.
-        unsafe { ffi::poll82599_rx_serve(self.ends.device(), &mut call, segment.as_ptr(), segment.len()) };
-        call.answer
+        // SAFETY: the handle is full, and only this end uses it.
+        is_done(unsafe { ffi::poll82599_rx_set_quiet(self.ends.device()) })
     }
 }
 
@@ -258,8 +268,9 @@ impl TxDriver {
     /// Posts a segment of 1 to 2,048 bytes of a frame of `paylen` bytes. `rs` asks for a report, and is allowed only with
     /// `eop`. Refuses as `post`.
     pub fn post_segment(&mut self, bytes: &[u8], eop: bool, rs: bool, paylen: u32) -> Result<bool, Refusal> {
-        let ask = Call { operation: 0, eop: u32::from(eop), rs: u32::from(rs), paylen, ..Call::default() };
-        match self.call(ask, bytes).answer {
+        let (eop, rs) = (u32::from(eop), u32::from(rs));
+        // SAFETY: the handle is full, only this end uses it, and the segment has its length.
+        match unsafe { ffi::poll82599_tx_post_segment(self.handle(), bytes.as_ptr(), bytes.len(), eop, rs, paylen) } {
             2 => Err(Refusal::Unfit),
             answer => Ok(is_done(answer)),
         }
@@ -267,32 +278,18 @@ impl TxDriver {
 
     /// Loads the oldest report that is outstanding. Returns true if it is made; then so are all before it.
     pub fn poll_report(&mut self) -> bool {
-        is_done(self.step(2))
+        is_done(self.step(7).answer)
     }
 
     /// Takes back the buffer of the oldest descriptor that `poll_report` found reported. Returns false if there is none.
     pub fn clean(&mut self) -> bool {
-        is_done(self.step(6))
+        // SAFETY: the handle is full, and only this end uses it.
+        is_done(unsafe { ffi::poll82599_tx_clean(self.handle()) })
     }
 
     /// Loads TDH of a disabled ring: how many segments were posted and not sent.
     pub fn unsent(&mut self) -> Result<u32, Refusal> {
-        let call = self.call(Call { operation: 9, ..Call::default() }, &[]);
-        match call.answer {
-            1 => Ok(call.len),
-            2 => Err(Refusal::NotDisabled),
-            other => unanswered(other),
-        }
-    }
-
-    fn step(&mut self, operation: u32) -> u32 {
-        self.call(Call { operation, ..Call::default() }, &[]).answer
-    }
-
-    fn call(&mut self, mut call: Call, segment: &[u8]) -> Call {
-        // SAFETY: the handle is full, only this end uses it, and the segment has its length.
-        unsafe { ffi::poll82599_tx_drive(self.ends.driver(), &mut call, segment.as_ptr(), segment.len()) };
-        call
+        Ok(self.left()?.unwrap_or_else(|| unanswered(0)))
     }
 }
 
@@ -300,25 +297,20 @@ impl TxController {
     /// Loads the control word, and answers what the driver asks. Returns false if nothing was asked, or a disabling has to
     /// wait for the end of a frame.
     pub fn answer(&mut self) -> bool {
-        is_done(self.call(0, &mut []).answer)
+        // SAFETY: the handle is full, and only this end uses it.
+        is_done(unsafe { ffi::poll82599_tx_answer(self.ends.device()) })
     }
 
     /// Sends the next segment, in the order in which they were posted, and reports it if it asks for a report. Returns
     /// `None` if none is ready, and `NotOn` if the queue is off.
     pub fn send<'a>(&mut self, room: &'a mut [u8; BUFFER_BYTES]) -> Result<Option<Segment<'a>>, Refusal> {
-        let call = self.call(1, room);
-        match call.answer {
-            1 => Ok(Some(Segment { bytes: &room[..call.len as usize], eop: call.eop != 0 })),
-            0 => Ok(None),
-            3 => Err(Refusal::NotOn),
-            other => unanswered(other),
-        }
-    }
-
-    fn call(&mut self, operation: u32, room: &mut [u8]) -> Call {
-        let mut call = Call { operation, ..Call::default() };
         // SAFETY: the handle is full, only this end uses it, and the room has its length.
-        unsafe { ffi::poll82599_tx_serve(self.ends.device(), &mut call, room.as_mut_ptr(), room.len()) };
-        call
+        let send = |bytes, room, len, eop| unsafe { ffi::poll82599_tx_send(self.ends.device(), bytes, room, len, eop) };
+        match handed(room, send) {
+            (1, segment) => Ok(Some(segment)),
+            (0, _) => Ok(None),
+            (3, _) => Err(Refusal::NotOn),
+            (other, _) => unanswered(other),
+        }
     }
 }

@@ -1,23 +1,9 @@
 //! The records that programs and exports exchange, and the results for a wrong handle or operation.
 
-/// A step of an end, and its result. A segment that is handed out has its length in bytes in `len` and 1 or 0 in `eop`.
-/// A segment to store or post has `eop`, `rs` (yes if not 0) and `paylen`, the frame's length in bytes. `len` may also
-/// be a number of segments.
+/// A step of a driver or a pool, its result, and a count of buffers or segments.
 #[repr(C)]
 #[derive(Clone, Copy)]
 pub struct Poll82599Call {
-    pub operation: u32,
-    pub answer: u32,
-    pub len: u32,
-    pub eop: u32,
-    pub rs: u32,
-    pub paylen: u32,
-}
-
-/// A step of a queue or a pool, its result, and a count of buffers or segments.
-#[repr(C)]
-#[derive(Clone, Copy)]
-pub struct Poll82599Queue {
     pub operation: u32,
     pub answer: u32,
     pub count: usize,

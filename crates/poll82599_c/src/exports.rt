@@ -55,4 +55,5 @@ mod making;
 mod moving;
 mod playing;
 mod reading;
+mod stepping;
 mod supplying;

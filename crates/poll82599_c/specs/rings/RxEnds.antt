@@ -16,7 +16,7 @@ use Rattle.rx_ring.specs.Ends.{DriverSide, ControllerSide, controller_grown, dri
 use Rattle.rx_ring.specs.Meeting.{MadeSeats, ledger_of, stored_now}
 use Rattle.poll82599_c.specs.Held.{Both, OfBoth, Tried}
 use Rattle.poll82599_c.specs.rings.Following.{IsBegun}
-use Rattle.poll82599_c.specs.rings.Steps.{AskedDisable, AskedEnable, LoadedControl, PublishedAll, ReclaimedOne, TriedAnswer}
+use Rattle.poll82599_c.specs.rings.Steps.{AskedDisable, AskedEnable, LoadedControl, PublishedAll, ReclaimedOne}
 use Rattle.poll82599_c.specs.declared.rings.partial_frame.PartialFrame.{PartialFrame}
 
 -- both are fresh ends of one ring of n descriptors
@@ -63,18 +63,16 @@ abbrev pub TriedPoll : ℕ → ℕ → ℕ → Bytes → Bytes → DriverSide �
 TriedPoll answer len eop before after old new = (answer ≡ 1 → TookOne len eop before after old new) × (answer ≢ 1 → TookNone answer before after old new)
 
 -- the step of an operation, by its number, with this result
-abbrev pub Drove : ℕ → ℕ → ℕ → ℕ → Bytes → Bytes → DriverSide → DriverSide → Type 0
-Drove zero answer len eop before after old new = Tried PostedOne answer old new
-Drove (suc zero) answer len eop before after old new = Tried PublishedAll answer old new
-Drove (suc (suc zero)) answer len eop before after old new = TriedPoll answer len eop before after old new
-Drove (suc (suc (suc zero))) answer len eop before after old new = Tried AskedEnable answer old new
-Drove (suc (suc (suc (suc zero)))) answer len eop before after old new = LoadedControl answer old new
-Drove (suc (suc (suc (suc (suc zero))))) answer len eop before after old new = Tried AskedDisable answer old new
-Drove (suc (suc (suc (suc (suc (suc zero)))))) answer len eop before after old new = FoundQuiet answer old new
-Drove (suc (suc (suc (suc (suc (suc (suc zero))))))) answer len eop before after old new = Tried ReclaimedOne answer old new
-Drove (suc (suc (suc (suc (suc (suc (suc (suc zero)))))))) answer len eop before after old new = Tried GoneOver answer old new
-Drove (suc (suc (suc (suc (suc (suc (suc (suc (suc zero))))))))) answer len eop before after old new = Tried (λ d e. FoundLeft d len e) answer old new
-Drove _ answer len eop before after old new = answer ≡ 4294967295
+abbrev pub Drove : ℕ → ℕ → ℕ → DriverSide → DriverSide → Type 0
+Drove zero answer count old new = Tried PublishedAll answer old new
+Drove (suc zero) answer count old new = Tried AskedEnable answer old new
+Drove (suc (suc zero)) answer count old new = LoadedControl answer old new
+Drove (suc (suc (suc zero))) answer count old new = Tried AskedDisable answer old new
+Drove (suc (suc (suc (suc zero)))) answer count old new = Tried ReclaimedOne answer old new
+Drove (suc (suc (suc (suc (suc zero))))) answer count old new = Tried GoneOver answer old new
+Drove (suc (suc (suc (suc (suc (suc zero)))))) answer count old new = Tried (λ d e. FoundLeft d count e) answer old new
+Drove (suc (suc (suc (suc (suc (suc (suc zero))))))) answer count old new = FoundQuiet answer old new
+Drove _ answer count old new = answer ≡ 4294967295
 
 -- ---- a controller's steps
 
@@ -105,13 +103,6 @@ SaidNoMore old new = new ≡ controller_grown old (controller.Own SaidQuiet)
 -- a storing with this result
 abbrev pub TriedStore : ℕ → Bytes → Bool → ControllerSide → ControllerSide → Type 0
 TriedStore answer bytes eop old new = (answer ≡ 1 → StoredOne bytes eop old new) × (answer ≡ 0 → FoundNoneFree old new) × (answer ≢ 0 → answer ≢ 1 → new ≡ old)
-
--- the step of an operation, by its number, with this result
-abbrev pub Served : ℕ → ℕ → Bytes → Bool → ControllerSide → ControllerSide → Type 0
-Served zero answer bytes eop old new = TriedAnswer answer old new
-Served (suc zero) answer bytes eop old new = TriedStore answer bytes eop old new
-Served (suc (suc zero)) answer bytes eop old new = Tried SaidNoMore answer old new
-Served _ answer bytes eop old new = answer ≡ 4294967295
 
 -- ---- the invariants of the objects behind the handles
 

@@ -16,7 +16,7 @@ use Rattle.tx_ring.specs.Meeting.{IsTold, MadeSeats, ledger_of, sent_now, told_l
 use Rattle.tx_ring.specs.Records.{Posting}
 use Rattle.poll82599_c.specs.Held.{Both, OfBoth, Tried}
 use Rattle.poll82599_c.specs.rings.Following.{IsPosting}
-use Rattle.poll82599_c.specs.rings.Steps.{AskedDisable, AskedEnable, LoadedControl, PublishedAll, ReclaimedOne, TriedAnswer}
+use Rattle.poll82599_c.specs.rings.Steps.{AskedDisable, AskedEnable, LoadedControl, PublishedAll, ReclaimedOne}
 use Rattle.poll82599_c.specs.declared.rings.partial_frame.PartialFrame.{PartialFrame}
 
 -- both are fresh ends of one ring of n descriptors that reports in this way
@@ -53,18 +53,16 @@ abbrev pub TriedReport : ℕ → DriverSide → DriverSide → Type 0
 TriedReport answer old new = (answer ≡ 1 → SawReported old new) × (answer ≢ 1 → SawNoReport old new)
 
 -- the step of an operation, by its number, with this result
-abbrev pub Drove : ℕ → ℕ → ℕ → Bytes → Bool → Bool → ℕ → DriverSide → DriverSide → Type 0
-Drove zero answer len bytes eop rs paylen old new = Tried (PostedSegment bytes eop rs paylen) answer old new
-Drove (suc zero) answer len bytes eop rs paylen old new = Tried PublishedAll answer old new
-Drove (suc (suc zero)) answer len bytes eop rs paylen old new = TriedReport answer old new
-Drove (suc (suc (suc zero))) answer len bytes eop rs paylen old new = Tried AskedEnable answer old new
-Drove (suc (suc (suc (suc zero)))) answer len bytes eop rs paylen old new = LoadedControl answer old new
-Drove (suc (suc (suc (suc (suc zero))))) answer len bytes eop rs paylen old new = Tried AskedDisable answer old new
-Drove (suc (suc (suc (suc (suc (suc zero)))))) answer len bytes eop rs paylen old new = Tried CleanedBuffer answer old new
-Drove (suc (suc (suc (suc (suc (suc (suc zero))))))) answer len bytes eop rs paylen old new = Tried ReclaimedOne answer old new
-Drove (suc (suc (suc (suc (suc (suc (suc (suc zero)))))))) answer len bytes eop rs paylen old new = Tried GoneOver answer old new
-Drove (suc (suc (suc (suc (suc (suc (suc (suc (suc zero))))))))) answer len bytes eop rs paylen old new = Tried (λ d e. FoundLeft d len e) answer old new
-Drove _ answer len bytes eop rs paylen old new = answer ≡ 4294967295
+abbrev pub Drove : ℕ → ℕ → ℕ → DriverSide → DriverSide → Type 0
+Drove zero answer count old new = Tried PublishedAll answer old new
+Drove (suc zero) answer count old new = Tried AskedEnable answer old new
+Drove (suc (suc zero)) answer count old new = LoadedControl answer old new
+Drove (suc (suc (suc zero))) answer count old new = Tried AskedDisable answer old new
+Drove (suc (suc (suc (suc zero)))) answer count old new = Tried ReclaimedOne answer old new
+Drove (suc (suc (suc (suc (suc zero))))) answer count old new = Tried GoneOver answer old new
+Drove (suc (suc (suc (suc (suc (suc zero)))))) answer count old new = Tried (λ d e. FoundLeft d count e) answer old new
+Drove (suc (suc (suc (suc (suc (suc (suc zero))))))) answer count old new = TriedReport answer old new
+Drove _ answer count old new = answer ≡ 4294967295
 
 -- ---- a controller's steps
 
@@ -95,12 +93,6 @@ pub record SentNone (answer : ℕ) (before after : Bytes) (old new : ControllerS
 -- a sending with this result
 abbrev pub TriedSend : ℕ → ℕ → ℕ → Bytes → Bytes → ControllerSide → ControllerSide → Type 0
 TriedSend answer len eop before after old new = (answer ≡ 1 → SentOne len eop before after old new) × (answer ≢ 1 → SentNone answer before after old new)
-
--- the step of an operation, by its number, with this result
-abbrev pub Served : ℕ → ℕ → ℕ → ℕ → Bytes → Bytes → ControllerSide → ControllerSide → Type 0
-Served zero answer len eop before after old new = TriedAnswer answer old new
-Served (suc zero) answer len eop before after old new = TriedSend answer len eop before after old new
-Served _ answer len eop before after old new = answer ≡ 4294967295
 
 -- ---- the invariant of a driver's object: its end belongs to its ring, and of the unfinished frame this many segments
 -- and bytes are posted, each with this PAYLEN

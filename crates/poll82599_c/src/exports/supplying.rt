@@ -5,7 +5,7 @@ ghost use Rattle.poll82599_c.specs.Held.{Among, Of};
 ghost use Rattle.poll82599_c.specs.batches.Pools.{Supplied};
 
 use crate::batches::Found;
-use crate::call::{NO_OPERATION, Poll82599Queue};
+use crate::call::{NO_OPERATION, Poll82599Call};
 use crate::end::End;
 use crate::handle::Handle;
 
@@ -19,7 +19,7 @@ use crate::handle::Handle;
 pub extern "C" fn poll82599_pool_move(
     packets: &mut Handle,
     pool: &mut Handle,
-    call: &mut Poll82599Queue,
+    call: &mut Poll82599Call,
 )
     ensures other { (as_packets packets.old.held ≡ None) ⊎ (as_pool pool.old.held ≡ None) → (call.new.answer ≡ 4294967295) × (packets.new.held ≡ packets.old.held) × (pool.new.held ≡ pool.old.held) × (call.new.count ≡ 0) }
     ensures step { Among (Supplied call.old.operation call.new.answer call.old.count call.new.count) (as_packets packets.old.held) (as_pool pool.old.held) (as_packets packets.new.held) (as_pool pool.new.held) }

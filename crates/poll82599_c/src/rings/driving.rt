@@ -225,8 +225,10 @@ impl TxDriving {
                 buf.fill(bytes);
                 self.end
                     .post(&self.ring, buf, ask.eop, ask.rs, ask.paylen as u16);
-                self.begun = begun.with(bytes.len());
-                self.paylen = ask.paylen;
+                if !ask.eop {
+                    self.begun = begun.with(bytes.len());
+                    self.paylen = ask.paylen;
+                }
                 1
             }
         }

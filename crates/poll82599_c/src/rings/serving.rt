@@ -98,9 +98,10 @@ impl RxServing {
         ensures wrote { WroteOne bytes.now eop self.old self.new }
     {
         self.end.store(&self.ring, bytes, eop);
-        self.begun = begun.with(bytes.len());
         if eop {
             self.end.set_head(&self.ring);
+        } else {
+            self.begun = begun.with(bytes.len());
         }
     }
 
