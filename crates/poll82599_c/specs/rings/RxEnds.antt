@@ -1,5 +1,5 @@
 -- The two ends of a receive ring that handles hold, and their steps.
-use Rattle.std.specs.Prelude.{◌≡◌, ◌≢◌, ℕ, zero, suc, ◌⊎◌, Option, Bool, false, if◌then◌else◌, ◌++◌, length, drop, [], ◌∷◌}
+use Rattle.std.specs.Prelude.{◌≡◌, ◌≢◌, ℕ, ◌⊎◌, Option, Bool, false, if◌then◌else◌, ◌++◌, length, drop, [], ◌∷◌}
 use Rattle.std.specs.Int.{from_bool}
 use Rattle.atomic_table.specs.Seated.{TableId}
 use Rattle.buffer_pool.specs.Buffer.{Buffer, buffer}
@@ -14,9 +14,9 @@ use Rattle.rx_ring.specs.declared.events.RxDriverOwn.TheVariants.{LoadedQuiet}
 use Rattle.rx_ring.specs.declared.events.RxControllerOwn.TheVariants.{SaidQuiet, WroteBack}
 use Rattle.rx_ring.specs.Ends.{DriverSide, ControllerSide, controller_grown, driver_grown, driver_size, fill_place, is_at_frame_end, known_free, reclaimed, serve_place, stored, taken}
 use Rattle.rx_ring.specs.Meeting.{MadeSeats, ledger_of, stored_now}
-use Rattle.poll82599_c.specs.Held.{Both, OfBoth, Tried}
+use Rattle.poll82599_c.specs.Held.{Both, OfBoth}
 use Rattle.poll82599_c.specs.rings.Following.{IsBegun}
-use Rattle.poll82599_c.specs.rings.Steps.{AskedDisable, AskedEnable, LoadedControl, PublishedAll, ReclaimedOne}
+use Rattle.poll82599_c.specs.rings.Steps as steps
 use Rattle.poll82599_c.specs.declared.rings.partial_frame.PartialFrame.{PartialFrame}
 
 -- both are fresh ends of one ring of n descriptors
@@ -64,15 +64,7 @@ TriedPoll answer len eop before after old new = (answer ≡ 1 → TookOne len eo
 
 -- the step of an operation, by its number, with this result
 abbrev pub Drove : ℕ → ℕ → ℕ → DriverSide → DriverSide → Type 0
-Drove zero answer count old new = Tried PublishedAll answer old new
-Drove (suc zero) answer count old new = Tried AskedEnable answer old new
-Drove (suc (suc zero)) answer count old new = LoadedControl answer old new
-Drove (suc (suc (suc zero))) answer count old new = Tried AskedDisable answer old new
-Drove (suc (suc (suc (suc zero)))) answer count old new = Tried ReclaimedOne answer old new
-Drove (suc (suc (suc (suc (suc zero))))) answer count old new = Tried GoneOver answer old new
-Drove (suc (suc (suc (suc (suc (suc zero)))))) answer count old new = Tried (λ d e. FoundLeft d count e) answer old new
-Drove (suc (suc (suc (suc (suc (suc (suc zero))))))) answer count old new = FoundQuiet answer old new
-Drove _ answer count old new = answer ≡ 4294967295
+Drove = steps.Drove GoneOver FoundLeft FoundQuiet
 
 -- ---- a controller's steps
 

@@ -1,5 +1,5 @@
 -- The common steps of the ends of both directions that handles hold.
-use Rattle.std.specs.Prelude.{◌≡◌, ◌≢◌, ℕ, Option}
+use Rattle.std.specs.Prelude.{◌≡◌, ◌≢◌, ℕ, zero, suc, Option}
 use Rattle.buffer_pool.specs.Buffer.{Buffer}
 use Rattle.shared_ring.specs.declared.ends.HandshakeStep.{HandshakeStep}
 use Rattle.shared_ring.specs.declared.ends.HandshakeStep.TheVariants.{AskEnable, LoadControl, AskDisable}
@@ -49,6 +49,19 @@ module _ {Ring Posted Completed Reaped D C : Type 0} {form : Form Ring Posted Co
   pub record ReclaimedOne (old new : DriverSide form) : Type 0 where
     pub buf : Buffer
     pub step : new ≡ driver_grown old (driver.Reclaimed (next_place old) buf)
+
+  -- the step of a driver's operation, by its number, with this result. A direction says what it is to be renewed, what is
+  -- left, and what operation 7 does.
+  abbrev pub Drove : (DriverSide form → DriverSide form → Type 0) → (DriverSide form → ℕ → DriverSide form → Type 0) → (ℕ → DriverSide form → DriverSide form → Type 0) → ℕ → ℕ → ℕ → DriverSide form → DriverSide form → Type 0
+  Drove Renewed FoundLeft Own zero answer count old new = Tried PublishedAll answer old new
+  Drove Renewed FoundLeft Own (suc zero) answer count old new = Tried AskedEnable answer old new
+  Drove Renewed FoundLeft Own (suc (suc zero)) answer count old new = LoadedControl answer old new
+  Drove Renewed FoundLeft Own (suc (suc (suc zero))) answer count old new = Tried AskedDisable answer old new
+  Drove Renewed FoundLeft Own (suc (suc (suc (suc zero)))) answer count old new = Tried ReclaimedOne answer old new
+  Drove Renewed FoundLeft Own (suc (suc (suc (suc (suc zero))))) answer count old new = Tried Renewed answer old new
+  Drove Renewed FoundLeft Own (suc (suc (suc (suc (suc (suc zero)))))) answer count old new = Tried (λ d e. FoundLeft d count e) answer old new
+  Drove Renewed FoundLeft Own (suc (suc (suc (suc (suc (suc (suc zero))))))) answer count old new = Own answer old new
+  Drove Renewed FoundLeft Own _ answer count old new = answer ≡ 4294967295
 
   -- ---- a controller's steps
 

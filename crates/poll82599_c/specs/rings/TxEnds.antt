@@ -1,5 +1,5 @@
 -- The two ends of a transmit ring that handles hold, and their steps.
-use Rattle.std.specs.Prelude.{◌≡◌, ◌≢◌, ℕ, zero, suc, Option, Bool, true, false, ◌++◌, length, drop, [], ◌∷◌}
+use Rattle.std.specs.Prelude.{◌≡◌, ◌≢◌, ℕ, Option, Bool, true, false, ◌++◌, length, drop, [], ◌∷◌}
 use Rattle.std.specs.Int.{from_bool}
 use Rattle.atomic_table.specs.Seated.{TableId}
 use Rattle.buffer_pool.specs.Buffer.{Buffer, buffer}
@@ -14,9 +14,9 @@ use Rattle.tx_ring.specs.Calls.{CleanedOne, FoundLeft, FoundReady, GoneOver, Pol
 use Rattle.tx_ring.specs.Ends.{DriverSide, ControllerSide, controller_grown, driver_grown, controller_size, driver_size, fill_place, known_ready, posted, sent}
 use Rattle.tx_ring.specs.Meeting.{IsTold, MadeSeats, ledger_of, sent_now, told_left}
 use Rattle.tx_ring.specs.Records.{Posting}
-use Rattle.poll82599_c.specs.Held.{Both, OfBoth, Tried}
+use Rattle.poll82599_c.specs.Held.{Both, OfBoth}
 use Rattle.poll82599_c.specs.rings.Following.{IsPosting}
-use Rattle.poll82599_c.specs.rings.Steps.{AskedDisable, AskedEnable, LoadedControl, PublishedAll, ReclaimedOne}
+use Rattle.poll82599_c.specs.rings.Steps as steps
 use Rattle.poll82599_c.specs.declared.rings.partial_frame.PartialFrame.{PartialFrame}
 
 -- both are fresh ends of one ring of n descriptors that reports in this way
@@ -54,15 +54,7 @@ TriedReport answer old new = (answer ≡ 1 → SawReported old new) × (answer �
 
 -- the step of an operation, by its number, with this result
 abbrev pub Drove : ℕ → ℕ → ℕ → DriverSide → DriverSide → Type 0
-Drove zero answer count old new = Tried PublishedAll answer old new
-Drove (suc zero) answer count old new = Tried AskedEnable answer old new
-Drove (suc (suc zero)) answer count old new = LoadedControl answer old new
-Drove (suc (suc (suc zero))) answer count old new = Tried AskedDisable answer old new
-Drove (suc (suc (suc (suc zero)))) answer count old new = Tried ReclaimedOne answer old new
-Drove (suc (suc (suc (suc (suc zero))))) answer count old new = Tried GoneOver answer old new
-Drove (suc (suc (suc (suc (suc (suc zero)))))) answer count old new = Tried (λ d e. FoundLeft d count e) answer old new
-Drove (suc (suc (suc (suc (suc (suc (suc zero))))))) answer count old new = TriedReport answer old new
-Drove _ answer count old new = answer ≡ 4294967295
+Drove = steps.Drove GoneOver FoundLeft TriedReport
 
 -- ---- a controller's steps
 
