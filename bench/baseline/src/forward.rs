@@ -19,10 +19,17 @@ const FILL: usize = 2048;
 /// A wire that is not kept is emptied after this many frames, and keeps its memory.
 const KEPT: usize = 4;
 
+/// A frame, and the port and queue that receive it.
+pub struct Frame {
+    pub port: u8,
+    pub queue: u8,
+    pub bytes: Vec<u8>,
+}
+
 /// The frames of a flow: those at these places of a list, again and again, `count` in all.
 #[derive(Clone, Copy)]
 pub struct Feed<'a> {
-    pub frames: &'a [Vec<u8>],
+    pub frames: &'a [Frame],
     pub places: &'a [u32],
     pub count: u64,
 }
@@ -158,7 +165,7 @@ impl Side for Drivers<'_> {
 struct Controllers<'a> {
     rx: RxController<'a>,
     tx: TxController<'a>,
-    frames: &'a [Vec<u8>],
+    frames: &'a [Frame],
     places: &'a [u32],
     /// The index in `places` of the next frame to offer.
     next: usize,
@@ -182,7 +189,7 @@ impl Side for Controllers<'_> {
         self.enabled |= self.rx.is_serving() && self.tx.is_serving();
         let mut progress = Progress::Idle;
         if self.left != 0 {
-            let offer = self.rx.offer(&self.frames[self.places[self.next] as usize]);
+            let offer = self.rx.offer(&self.frames[self.places[self.next] as usize].bytes);
             if !matches!(offer.expect("a lawful frame"), Offer::Off | Offer::Held) {
                 self.left -= 1;
                 self.next += 1;

@@ -1,13 +1,13 @@
 //! The forwarder from text to text: a script of frames on standard input, wires and counts on standard output.
 
-use crate::forward::{Feed, Plan, Report, forward};
+use crate::forward::{Feed, Frame, Plan, Report, forward};
 use std::io::{self, Read, Write};
 
 const DIGITS: &[u8; 16] = b"0123456789abcdef";
 
 /// A script: its frames, and the places of each flow's frames.
 struct Script {
-    frames: Vec<Vec<u8>>,
+    frames: Vec<Frame>,
     places: Vec<Vec<u32>>,
 }
 
@@ -46,17 +46,18 @@ impl Script {
                 continue;
             }
             let mut fields = line.split(|byte| *byte == b' ');
-            let port = usize::from(nibble(*fields.next()?.first()?)?);
-            let queue = usize::from(nibble(*fields.next()?.first()?)?);
+            let port = nibble(*fields.next()?.first()?)?;
+            let queue = nibble(*fields.next()?.first()?)?;
             let third = fields.next()?;
-            let frame = if third == b"fill" {
+            let bytes = if third == b"fill" {
                 filled(fields.next()?, fields.next()?)?
             } else {
                 bytes_of(third)?
             };
             let place = script.frames.len() as u32;
-            script.places.get_mut(port * pairs + queue)?.push(place);
-            script.frames.push(frame);
+            let flow = usize::from(port) * pairs + usize::from(queue);
+            script.places.get_mut(flow)?.push(place);
+            script.frames.push(Frame { port, queue, bytes });
         }
         Some(script)
     }
