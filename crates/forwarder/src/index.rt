@@ -3,16 +3,13 @@ ghost use Rattle.std.specs.Prelude.{◌≡◌, ℕ, ◌*◌, ◌<◌, ◌≤◌,
 ghost use Rattle.limits.specs.declared.profile.TheConstants.{MOST_PAIRS, PORTS};
 ghost use Rattle.forwarder.specs.Flows.{flow_of, places_of};
 
-use limits::{MOST_PAIRS, PORTS};
+use limits::PORTS;
 use std::alloc::{AllocError, Global};
 use std::marker::Model;
 use wire_script::{Script, WireFrame};
 
-/// The maximum number of flows: a queue pair of either port.
-const MOST_FLOWS: usize = PORTS * MOST_PAIRS;
-
-/// For each flow the places of its frames in the script, in their order, with 4 bytes a frame. Flow `f` receives at
-/// port `f / pairs`, queue `f % pairs`.
+/// For each flow the places of its frames in the script, in their order. A place takes 4 bytes, and the lists grow by
+/// doubling. Flow `f` receives at port `f / pairs`, queue `f % pairs`.
 #[derive(Drop)]
 pub struct Index {
     flows: Vec<Vec<u32>>,
@@ -36,34 +33,16 @@ fn flow_of(frame: &WireFrame, pairs: u32) -> usize
     usize::from(frame.port()) * pairs as usize + usize::from(frame.queue())
 }
 
-/// The number of frames of each flow, so that room for them is allocated once.
-fn counts(frames: &[WireFrame], pairs: u32) -> [usize; MOST_FLOWS]
-    requires pairs { pairs ≤ MOST_PAIRS }
-    requires queues { All (λ f. f.queue < pairs) frames.now }
-{
-    let mut counts = [0usize; MOST_FLOWS];
-    for frame in frames {
-        let flow = flow_of(frame, pairs);
-        counts[flow] = counts[flow].saturating_add(1);
-    }
-    counts
-}
-
-/// An empty list for each flow, with room for `counts` places.
-fn rooms(
-    alloc: Global,
-    counts: &[usize; MOST_FLOWS],
-    flows: usize,
-) -> Result<Vec<Vec<u32>>, AllocError>
-    requires { flows ≤ PORTS * MOST_PAIRS }
+/// An empty list for each flow.
+fn no_places(alloc: Global, flows: usize) -> Result<Vec<Vec<u32>>, AllocError>
     ensures flows { IfOk result (λ v. vec_len v ≡ flows) }
     ensures empty { IfOk result (λ v. (k : ℕ) (d : _) → k < flows → (slice_index_or v.items k d).items ≡ []) }
 {
-    let mut rooms = Vec::with_capacity(alloc, flows)?;
-    for flow in 0..flows {
-        rooms.push(Vec::with_capacity(alloc, counts[flow])?)?;
+    let mut lists = Vec::with_capacity(alloc, flows)?;
+    for _ in 0..flows {
+        lists.push(Vec::new(alloc))?;
     }
-    Ok(rooms)
+    Ok(lists)
 }
 
 impl Index {
@@ -75,7 +54,7 @@ impl Index {
         ensures places { IfOk result (λ x. (flow : ℕ) (d : _) → flow < PORTS * pairs → slice_index_or x flow d ≡ places_of pairs flow script.now) }
     {
         let frames = script.frames();
-        let mut flows = rooms(alloc, &counts(frames, pairs), PORTS * pairs as usize)?;
+        let mut flows = no_places(alloc, PORTS * pairs as usize)?;
         for k in 0..frames.len() {
             let flow = flow_of(&frames[k], pairs);
             flows[flow].push(k as u32)?;
