@@ -22,10 +22,11 @@ fn nibble(digit: u8) -> Option<u8> {
 }
 
 fn bytes_of(hex: &[u8]) -> Option<Vec<u8>> {
-    if hex.len() % 2 != 0 {
+    let digits = hex.chunks_exact(2);
+    if !digits.remainder().is_empty() {
         return None;
     }
-    hex.chunks_exact(2)
+    digits
         .map(|two| Some(nibble(two[0])? << 4 | nibble(two[1])?))
         .collect()
 }
@@ -48,6 +49,9 @@ impl Script {
             let mut fields = line.split(|byte| *byte == b' ');
             let port = nibble(*fields.next()?.first()?)?;
             let queue = nibble(*fields.next()?.first()?)?;
+            if port > 1 || usize::from(queue) >= pairs {
+                return None;
+            }
             let third = fields.next()?;
             let bytes = if third == b"fill" {
                 filled(fields.next()?, fields.next()?)?

@@ -9,7 +9,7 @@ mod once_tests;
 mod replay;
 mod runs;
 mod schedules_tests;
-mod search;
+mod search_tests;
 mod stream_tests;
 mod streams;
 mod told;

@@ -73,7 +73,14 @@ impl<'s> Gate for Halved<'s> {
     }
 }
 
-/// The rate that was shown with 20 frames, in frames per second.
+/// The rate in the line of a half of the frames, in frames per second.
+fn rate_in(shown: &str) -> Option<u64> {
+    let (_, behind) = shown.split_once(HALF)?;
+    let (rate, _) = behind.split_once('\n')?;
+    rate.parse().ok()
+}
+
+/// The rate that was shown with 20 frames.
 fn rate_shown<R: Host>(rt: &R, alloc: Global) -> Option<u64> {
     let text = forty(alloc).ok()?;
     let script = parse(alloc, text.as_bytes()).ok()?;
@@ -93,9 +100,7 @@ fn rate_shown<R: Host>(rt: &R, alloc: Global) -> Option<u64> {
     };
     let form = Some(ProgressForm::Lines);
     forward(rt, alloc, &script, &config, &gate, &mut screen, form).ok()?;
-    let (_, behind) = text_of(screen.text.as_slice()).split_once(HALF)?;
-    let (rate, _) = behind.split_once('\n')?;
-    rate.parse().ok()
+    rate_in(text_of(screen.text.as_slice()))
 }
 
 // At least a second passed since the run began, in which 20 frames were posted.

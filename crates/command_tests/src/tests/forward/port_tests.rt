@@ -144,10 +144,18 @@ fn has_ends(object: &str, input: PortQueue) -> bool {
         port: input.port & 1,
         queue: input.queue,
     });
-    number_of(object, "\"rx_port\"") == Some(u64::from(input.port))
-        && number_of(object, "\"rx_queue\"") == Some(u64::from(input.queue))
-        && number_of(object, "\"tx_port\"") == Some(u64::from(output.port))
-        && number_of(object, "\"tx_queue\"") == Some(u64::from(output.queue))
+    let ends = [
+        ("\"rx_port\"", input.port),
+        ("\"rx_queue\"", input.queue),
+        ("\"tx_port\"", output.port),
+        ("\"tx_queue\"", output.queue),
+    ];
+    for (key, value) in ends {
+        if number_of(object, key) != Some(u64::from(value)) {
+            return false;
+        }
+    }
+    true
 }
 
 /// The counts of an object for each flow, and for each port the sums of the flows that came in there (the first three

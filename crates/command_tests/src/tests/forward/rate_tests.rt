@@ -54,6 +54,11 @@ fn each_line_has_its_text(rt: HostRuntime) {
     }
 }
 
+/// Whether a text is one line that begins with this.
+fn is_one_line(text: &str, first: &str) -> bool {
+    text.starts_with(first) && text.find('\n') == text.len().checked_sub(1)
+}
+
 /// The 40 frames of 60 bytes with these options and `--rate`: the output is the one without `--rate`, and so is what is
 /// shown, with one more line that begins with this.
 fn shows<R: Host>(rt: &R, alloc: Global, options: &[&str], script: &[u8], first: &str) {
@@ -62,7 +67,7 @@ fn shows<R: Host>(rt: &R, alloc: Global, options: &[&str], script: &[u8], first:
     words.push("--rate").expect(rt, "memory");
     let told = outcome_of(rt, alloc, words.as_slice(), script);
     let line = told.shown().strip_prefix(dark.shown()).unwrap_or("");
-    let is_one = line.starts_with(first) && line.find('\n') == line.len().checked_sub(1);
+    let is_one = is_one_line(line, first);
     same(rt, (told.shown(), is_one), (told.shown(), true));
     same(rt, (told.status, told.faults()), (0, ""));
     same(rt, told.output.as_slice(), dark.output.as_slice());

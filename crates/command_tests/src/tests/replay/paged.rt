@@ -44,13 +44,15 @@ const LINES: &[&str] = &[
 ];
 
 /// What a page has between its constant parts.
+fn inside(page: &str) -> Option<&str> {
+    page.strip_prefix(PAGE_HEAD)?.strip_suffix(PAGE_TAIL)
+}
+
+/// The same, of what the program prints for these words and this input.
 fn data_of<R: Host>(rt: &R, alloc: Global, words: &[&str], input: &str) -> String {
     let told = outcome_of(rt, alloc, words, input.as_bytes());
-    let inside = told
-        .text()
-        .strip_prefix(PAGE_HEAD)
-        .and_then(|rest| rest.strip_suffix(PAGE_TAIL));
-    String::from_str(alloc, inside.unwrap_or("(this is no page)")).expect(rt, "memory")
+    let data = inside(told.text()).unwrap_or("(this is no page)");
+    String::from_str(alloc, data).expect(rt, "memory")
 }
 
 #[test]
