@@ -1,5 +1,5 @@
-//! Tests of the program's commands and of its command line, and of what only they use: drawn schedules and the search
-//! over states.
+//! Tests of the program's commands on streams and screens that fail, of its refusals, and of what only they use. `checks/runs`
+//! tests the built program.
 //! Depends on `program` and the crates below it.
 //! Guarantees nothing.
 //!

@@ -25,7 +25,7 @@ pub fn is_refused<R: Host>(
 const NO_OUTPUT: &str = "refused 84 output\n";
 
 /// An output with room for `room` bytes gets the beginning of what the run writes.
-fn has_beginning<R: Host>(
+pub fn has_beginning<R: Host>(
     rt: &R,
     alloc: Global,
     (words, input): (&[&str], &[u8]),

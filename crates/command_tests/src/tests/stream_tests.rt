@@ -1,11 +1,11 @@
 //! Failing streams and allocations.
 
 use crate::tests::failing::{each_cut, is_refused, is_stuck};
-use crate::tests::lists::QUEUES;
 use crate::tests::runs::{Host, Streams, run_on};
 use crate::tests::streams::{Input, Output};
 use crate::tests::wanted::{holds, same};
-use commands::{Request, perform};
+use commands::{NOTES, QueuePlan, Request, perform};
+use ring_machine::Completion;
 use std::alloc::Global;
 
 const FRAME: &str = "000102030405060708090a0b0c0d";
@@ -84,6 +84,15 @@ const CUT: &[(&[&str], &[u8])] = &[(&["replay"], b"r0 A2\nr0 A9\n")];
 fn an_input_that_fails_in_mid_stream_is_refused(rt: HostRuntime) {
     each_cut(&rt, rt.alloc(), CUT)
 }
+
+const QUEUES: QueuePlan = QueuePlan {
+    pairs: 1,
+    ring: 8,
+    enabled: true,
+    completion: Completion::Status,
+    lists: false,
+    shown: NOTES,
+};
 
 #[test]
 fn want_of_memory(rt: HostRuntime) {

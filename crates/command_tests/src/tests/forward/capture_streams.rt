@@ -1,7 +1,6 @@
 //! Failing streams and allocations of `from-capture` and `to-capture`.
 
 use crate::tests::failing::{each_beginning, each_cut};
-use crate::tests::forward::captured::{AT_0, FIVES, HEADER, joined};
 use crate::tests::streams::{Input, Output, Screen};
 use crate::tests::wanted::{holds, same};
 use capture::ReadOptions;
@@ -16,11 +15,15 @@ const FROM: &[&str] = &["from-capture", "0", "0"];
 
 const SCRIPT: &str = "1 0 0506050505050505050505050505\n";
 
+/// Its capture: the header of the file, little-endian, with microseconds, version 2.4, a snap length of 65,535 and Ethernet;
+/// that of a record of 14 bytes at 0; and the frame.
+const CAPTURE: &[u8] = b"\xd4\xc3\xb2\xa1\x02\x00\x04\x00\0\0\0\0\0\0\0\0\xff\xff\0\0\x01\0\0\0\
+\0\0\0\0\0\0\0\0\x0e\0\0\0\x0e\0\0\0\x05\x06\x05\x05\x05\x05\x05\x05\x05\x05\x05\x05\x05\x05";
+
 #[test]
 fn an_output_that_fails_has_a_beginning(rt: HostRuntime) {
-    let whole = joined(rt.alloc(), &[HEADER, AT_0, FIVES]).expect(&rt, "memory");
     let rooms = [0, 1, 23, 24, 25, 40];
-    each_beginning(&rt, rt.alloc(), (TO, SCRIPT), whole.as_slice(), &rooms)
+    each_beginning(&rt, rt.alloc(), (TO, SCRIPT), CAPTURE, &rooms)
 }
 
 /// The part of the input that can be read: nothing, the header of a capture, a line, and the beginning of a line.

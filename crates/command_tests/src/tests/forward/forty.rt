@@ -5,14 +5,6 @@ use std::alloc::{AllocError, Global};
 /// Two pairs, and rings that are filled several times.
 pub const FORTY_WORDS: &[&str] = &["forward", "--pairs", "2", "--ring", "8"];
 
-/// These words, followed by options.
-pub fn forty_words<'a>(alloc: Global, options: &[&'a str]) -> Result<Vec<&'a str>, AllocError> {
-    let mut words = Vec::new(alloc);
-    words.extend_from_slice(FORTY_WORDS)?;
-    words.extend_from_slice(options)?;
-    Ok(words)
-}
-
 /// Each of the 40 frames is 60 times one byte: 0x00 to this one, and 0xff.
 const LAST: u8 = 0x26;
 
