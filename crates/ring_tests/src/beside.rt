@@ -98,7 +98,10 @@ impl<B: Beside + Drop> Walk<B> {
         if B::renews(step) {
             self.renewals = self.renewals.saturating_add(1);
         }
-        self.both.left().is_none_or(|left| left.0 == left.1)
+        match self.both.left() {
+            Some((told, counted)) => told == counted,
+            None => true,
+        }
     }
 
     /// Makes the steps. Returns whether both reported the same at each.
@@ -196,10 +199,18 @@ pub fn disable<B: Beside>(both: &mut B) -> bool {
 }
 
 fn ask<B: Beside>(both: &mut B, asks: ControlStep) -> bool {
-    both.call(B::control(asks)).is_some()
-        && both.call(B::control(ControlStep::LookAsked)).is_some()
-        && both.call(B::control(ControlStep::Answer)).is_some()
-        && both.call(B::control(ControlStep::LookAnswered)).is_some()
+    let steps = [
+        asks,
+        ControlStep::LookAsked,
+        ControlStep::Answer,
+        ControlStep::LookAnswered,
+    ];
+    for step in &steps {
+        if both.call(B::control(*step)).is_none() {
+            return false;
+        }
+    }
+    true
 }
 
 /// Returns a random step of the handshake.
@@ -237,14 +248,12 @@ impl Lying {
     // Whether a closed ring returned at this place what the machine has there: the buffer posted there if the ring owns
     // the place, else none.
     fn is_at(&self, place: usize, owner: Owner, slots: &[Option<Buf>]) -> bool {
-        let Some(slot) = slots.get(place) else {
-            return false;
-        };
-        let number = slot.as_ref().map(|buf| buf.number());
-        if owner == Owner::Ring {
-            number == self.numbers.get(place).copied()
-        } else {
-            number.is_none()
+        match slots.get(place) {
+            Some(Some(buf)) => {
+                owner == Owner::Ring && self.numbers.get(place) == Some(&buf.number())
+            }
+            Some(None) => owner != Owner::Ring,
+            None => false,
         }
     }
 }
