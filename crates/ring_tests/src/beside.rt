@@ -199,18 +199,10 @@ pub fn disable<B: Beside>(both: &mut B) -> bool {
 }
 
 fn ask<B: Beside>(both: &mut B, asks: ControlStep) -> bool {
-    let steps = [
-        asks,
-        ControlStep::LookAsked,
-        ControlStep::Answer,
-        ControlStep::LookAnswered,
-    ];
-    for step in &steps {
-        if both.call(B::control(*step)).is_none() {
-            return false;
-        }
-    }
-    true
+    both.call(B::control(asks)).is_some()
+        && both.call(B::control(ControlStep::LookAsked)).is_some()
+        && both.call(B::control(ControlStep::Answer)).is_some()
+        && both.call(B::control(ControlStep::LookAnswered)).is_some()
 }
 
 /// Returns a random step of the handshake.

@@ -226,29 +226,15 @@ fn is_made(queues: &mut Queues, line: &str) -> bool {
     }
 }
 
-// The owner of place 0 of the first receive queue.
-fn receive_owner(queues: &Queues) -> Option<Owner> {
-    let queue = queues.receive(QueueNumber::new(0)?)?;
-    if queue.size() > 0 {
-        Some(queue.owner(0))
-    } else {
-        None
+// Whether place 0 of the first receive queue and of the first transmit queue have these owners.
+fn are_with<R: Abort>(rt: &R, queues: &Queues, sides: (Owner, Owner)) -> bool {
+    let first = QueueNumber::new(0).expect(rt, "a number");
+    let receive = queues.receive(first).expect(rt, "a queue");
+    let transmit = queues.transmit(first).expect(rt, "a queue");
+    if receive.size() < 8 || transmit.size() < 8 {
+        return false;
     }
-}
-
-// The owner of place 0 of the first transmit queue.
-fn transmit_owner(queues: &Queues) -> Option<Owner> {
-    let queue = queues.transmit(QueueNumber::new(0)?)?;
-    if queue.size() > 0 {
-        Some(queue.owner(0))
-    } else {
-        None
-    }
-}
-
-// Whether these places have these owners.
-fn are_with(queues: &Queues, (receive, transmit): (Owner, Owner)) -> bool {
-    receive_owner(queues) == Some(receive) && transmit_owner(queues) == Some(transmit)
+    receive.owner(0) == sides.0 && transmit.owner(0) == sides.1
 }
 
 // Whether there is no second pair of queues.
@@ -264,7 +250,7 @@ type Given = (&'static str, Owner, Owner);
 
 // Checks that the line's move is made, and the owners after it.
 fn is_given<R: Abort>(rt: &R, queues: &mut Queues, (line, receive, transmit): Given) {
-    let is_given = is_made(queues, line) && are_with(queues, (receive, transmit));
+    let is_given = is_made(queues, line) && are_with(rt, queues, (receive, transmit));
     same(rt, (line, is_given), (line, true));
 }
 
@@ -288,7 +274,7 @@ const GIVEN: &[Given] = &[
 
 // Checks the owners of a new pair of queues, and after each line.
 fn are_given<R: Abort>(rt: &R, queues: &mut Queues, rows: &[Given]) {
-    holds(rt, are_with(queues, (Owner::Driver, Owner::Driver)));
+    holds(rt, are_with(rt, queues, (Owner::Driver, Owner::Driver)));
     for row in rows {
         is_given(rt, queues, *row);
     }

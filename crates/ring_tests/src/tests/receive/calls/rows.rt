@@ -7,7 +7,7 @@ use crate::tests::wanted::same;
 use crate::{Beside, Tells, YesOrNo, disable, enable, told_so};
 use buffer_pool::Buf;
 use ring_model::{ControlStep, Note, RxStep, TakenSegment};
-use rx_ring::{ControllerEnd, DriverEnd, RingError, RxControllerEnd, RxDriverEnd, RxRing};
+use rx_ring::{ControllerEnd, DriverEnd, RingError, RxDriverEnd, RxRing};
 use std::alloc::Global;
 use std::process::Abort;
 
@@ -277,20 +277,15 @@ fn quiet_by_calls(rt: HostRuntime) {
     comes_to(&rt, rt.alloc(), QUIET);
 }
 
-/// The sizes of a ring's ends, its room, and its number of free descriptors.
-fn sizes_of(driver: &RxDriverEnd, controller: &RxControllerEnd) -> [u32; 4] {
-    [
+/// The sizes of a new ring's ends, its room, and its number of free descriptors.
+fn sizes(alloc: Global, n: u32) -> Result<[u32; 4], RingError> {
+    let (_ring, driver, controller) = RxRing::new(alloc, n)?;
+    Ok([
         driver.size(),
         controller.size(),
         driver.room(),
         controller.free(),
-    ]
-}
-
-/// The same numbers of a new ring.
-fn sizes(alloc: Global, n: u32) -> Result<[u32; 4], RingError> {
-    let (_ring, driver, controller) = RxRing::new(alloc, n)?;
-    Ok(sizes_of(&driver, &controller))
+    ])
 }
 
 const LAWFUL: &[u32] = &[8, 16, 32, 64, 128, 256, 512, 1_024, 2_048, 4_096];

@@ -38,19 +38,12 @@ const ENABLING: &[RxNamed] = &[
     RxStep::Control(ControlStep::LookAnswered),
 ];
 
-// Makes the step. Returns whether the ring and its machine agreed.
-fn agrees<B: Beside<Step = Step> + Drop>(walk: &mut Walk<B>, step: RxNamed) -> bool {
-    match rx_step(step) {
-        Some(step) => walk.make(step),
-        None => false,
-    }
-}
-
 // Makes the steps. Returns whether the ring and its machine agreed at each.
 fn walks<B: Beside<Step = Step> + Drop>(walk: &mut Walk<B>, steps: &[RxNamed]) -> bool {
     for step in steps {
-        if !agrees(walk, *step) {
-            return false;
+        match rx_step(*step) {
+            Some(step) if walk.make(step) => {}
+            _ => return false,
         }
     }
     true
