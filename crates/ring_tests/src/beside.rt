@@ -98,10 +98,7 @@ impl<B: Beside + Drop> Walk<B> {
         if B::renews(step) {
             self.renewals = self.renewals.saturating_add(1);
         }
-        match self.both.left() {
-            Some((told, counted)) => told == counted,
-            None => true,
-        }
+        self.both.left().is_none_or(|left| left.0 == left.1)
     }
 
     /// Makes the steps. Returns whether both reported the same at each.
@@ -240,12 +237,14 @@ impl Lying {
     // Whether a closed ring returned at this place what the machine has there: the buffer posted there if the ring owns
     // the place, else none.
     fn is_at(&self, place: usize, owner: Owner, slots: &[Option<Buf>]) -> bool {
-        match slots.get(place) {
-            Some(Some(buf)) => {
-                owner == Owner::Ring && self.numbers.get(place) == Some(&buf.number())
-            }
-            Some(None) => owner != Owner::Ring,
-            None => false,
+        let Some(slot) = slots.get(place) else {
+            return false;
+        };
+        let number = slot.as_ref().map(|buf| buf.number());
+        if owner == Owner::Ring {
+            number == self.numbers.get(place).copied()
+        } else {
+            number.is_none()
         }
     }
 }
