@@ -47,7 +47,13 @@ fn last_byte(k: u32) -> u8 {
 
 /// Whether each byte of the buffer is the last byte of `k`.
 pub fn is_filled(buf: &Buf, k: u32) -> bool {
-    buf.bytes().iter().all(|byte| *byte == last_byte(k))
+    let wanted = last_byte(k);
+    for byte in buf.bytes() {
+        if *byte != wanted {
+            return false;
+        }
+    }
+    true
 }
 
 /// The buffers that a closed ring and its ends returned.
@@ -119,11 +125,11 @@ impl Numbers {
 
     // Whether each number below `count` was counted once, and no other.
     fn are_each_once(&self, count: usize) -> bool {
+        for (number, counted) in self.counted.iter().enumerate() {
+            if *counted != (number < count) {
+                return false;
+            }
+        }
         !self.twice
-            && self
-                .counted
-                .iter()
-                .enumerate()
-                .all(|(number, counted)| *counted == (number < count))
     }
 }

@@ -26,9 +26,5 @@ pub fn frame(k: u32) -> [u8; BUFFER_BYTES] {
 
 /// Whether these are exactly the bytes of frame `k`.
 pub fn is_frame(k: u32, bytes: &[u8]) -> bool {
-    bytes.len() == frame_len(k)
-        && bytes
-            .iter()
-            .enumerate()
-            .all(|(i, byte)| *byte == frame_byte(k, i))
+    bytes == &frame(k)[..frame_len(k)]
 }

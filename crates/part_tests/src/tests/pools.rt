@@ -30,17 +30,26 @@ fn drained<R: Wait>(
     Ok(numbers)
 }
 
-// Whether the next three buffers have the numbers 0 to 2. They stay out.
-fn take_three<R: Wait>(rt: &R, pool: &Pool, pass: &mut PoolPass) -> Result<bool, Fail>
+// The number of the next buffer. It stays out.
+fn next_number<R: Wait>(rt: &R, pool: &Pool, pass: &mut PoolPass) -> Result<u16, PoolError>
     requires pool { IsOf pool.now pass.old }
     ensures pool { IsOf pool.now pass.new }
 {
-    let mut right = true;
+    let buf = pool.take(rt, pass)?;
+    Ok(buf.number())
+}
+
+// Whether the next three buffers have the numbers 0 to 2. They stay out.
+fn take_three<R: Wait>(rt: &R, pool: &Pool, pass: &mut PoolPass) -> bool
+    requires pool { IsOf pool.now pass.old }
+    ensures pool { IsOf pool.now pass.new }
+{
     for want in 0..3 {
-        let buf = pool.take(rt, pass)?;
-        right = right && buf.number() == want;
+        if next_number(rt, pool, pass) != Ok(want) {
+            return false;
+        }
     }
-    Ok(right)
+    true
 }
 
 // The number of the next buffer from a stash.
@@ -71,10 +80,9 @@ fn give_one<R: Wait + Abort>(
     same(rt, third.number(), 3);
     let moved = pool.refill(rt, first, stash, 256);
     same(rt, moved, 12);
-    same(rt, pool.take(rt, second).err(), Some(PoolError::Empty));
+    same(rt, next_number(rt, pool, second), Err(PoolError::Empty));
     pool.give(rt, first, third);
-    let again = pool.take(rt, second)?;
-    same(rt, again.number(), 3);
+    same(rt, next_number(rt, pool, second), Ok(3));
     Ok(())
 }
 
@@ -88,7 +96,7 @@ fn share<R: Wait + Abort>(
     requires first { IsOf pool.now first.old }
     requires second { IsOf pool.now second.old }
 {
-    holds(rt, take_three(rt, pool, first)?);
+    holds(rt, take_three(rt, pool, first));
     let mut stash = Stash::new();
     give_one(rt, pool, first, second, &mut stash)?;
     has_down_to(rt, &mut stash, 4);

@@ -333,19 +333,18 @@ fn notes_of_a_segment_are_printed(rt: HostRuntime) {
     are_printed(&rt, rt.alloc(), OF_A_SEGMENT)
 }
 
-// Each refusal, with its printed number and text.
-const REFUSALS: &[(MachineError, &str)] = &[
-    (MachineError::NotEnabled, "11 not enabled"),
-    (MachineError::RingLength, "12 ring length"),
-    (MachineError::Memory, "13 memory"),
-    (MachineError::Text, "14 move"),
+// Each refusal, with its number and printed text.
+const REFUSALS: &[(MachineError, u8, &str)] = &[
+    (MachineError::NotEnabled, 11, "not enabled"),
+    (MachineError::RingLength, 12, "ring length"),
+    (MachineError::Memory, 13, "memory"),
+    (MachineError::Text, 14, "move"),
 ];
 
 #[test]
 fn refusals_are_printed(rt: HostRuntime) {
-    for (refusal, words) in REFUSALS {
-        let number = refusal.number();
-        let text = format!(in rt.alloc(); "{number} {refusal}").expect(&rt, "memory");
-        same(&rt, text.as_str(), *words);
+    for (refusal, number, words) in REFUSALS {
+        same(&rt, (*words, refusal.number()), (*words, *number));
+        is_printed(&rt, rt.alloc(), refusal, words);
     }
 }

@@ -28,17 +28,26 @@ fn add(packet: &mut Packet, mut buf: Buf, bytes: &[u8]) {
     packet.push_back(buf);
 }
 
-// A complete packet with segments of these lengths, in buffers numbered from 100.
-fn packet<R: Abort>(rt: &R, alloc: Global, lengths: &[usize]) -> Packet {
+// Adds the packet's next segment, of `len` bytes, in the next buffer of the stock.
+fn grow<R: Abort>(rt: &R, alloc: Global, packet: &mut Packet, stock: &mut Stock, len: usize) {
+    let bytes = bytes_from(rt, alloc, packet.len(), len);
+    let buf = stock.take().expect(rt, "a buffer");
+    add(packet, buf, &bytes);
+}
+
+// A packet with segments of these lengths, in buffers numbered from 100.
+fn grown<R: Abort>(rt: &R, alloc: Global, lengths: &[usize]) -> Packet {
     let mut stock = Stock::new(alloc, 100, 16).expect(rt, "a stock");
     let mut packet = Packet::default();
-    let mut at = 0usize;
     for len in lengths {
-        let bytes = bytes_from(rt, alloc, at, *len);
-        let buf = stock.take().expect(rt, "a buffer");
-        add(&mut packet, buf, &bytes);
-        at = at.wrapping_add(*len);
+        grow(rt, alloc, &mut packet, &mut stock, *len);
     }
+    packet
+}
+
+// The same packet, which is complete.
+fn packet<R: Abort>(rt: &R, alloc: Global, lengths: &[usize]) -> Packet {
+    let packet = grown(rt, alloc, lengths);
     holds(rt, packet.is_whole());
     remade(packet)
 }
@@ -66,31 +75,43 @@ fn overwrite(packet: &mut Packet, i: usize) -> Option<(u8, u8)> {
     }
 }
 
-// What is wrong with a packet of segments of these lengths, if anything.
+// What is wrong with a packet of segments of these lengths and with its copy, if anything.
+fn fault_of(
+    packet: &mut Packet,
+    copy: &[u8],
+    lengths: &[usize],
+    len: usize,
+) -> Option<&'static str> {
+    if packet.len() != len || packet.segments() != lengths.len() {
+        Some("size")
+    } else if !is_copy(copy, len) {
+        Some("byte")
+    } else if !has_lengths(packet, lengths) {
+        Some("segment")
+    } else if overwrite(packet, len).is_some() {
+        Some("end")
+    } else {
+        None
+    }
+}
+
+// What is wrong with a new packet of segments of these lengths, if anything.
 fn fault<R: Abort>(rt: &R, alloc: Global, lengths: &[usize], len: usize) -> Option<&'static str> {
     let mut packet = packet(rt, alloc, lengths);
-    if packet.len() != len || packet.segments() != lengths.len() {
-        return Some("size");
-    }
     let mut copy = Vec::from_elem(alloc, 9u8, packet.len().max(1) + 1).expect(rt, "a copy");
     packet.copy_to(copy.as_mut_slice());
-    if !is_copy(&copy, len) {
-        return Some("byte");
-    }
-    if !has_lengths(&packet, lengths) {
-        return Some("segment");
-    }
-    if overwrite(&mut packet, len).is_some() {
-        return Some("end");
-    }
-    None
+    fault_of(&mut packet, &copy, lengths, len)
+}
+
+// Byte `i` of the copy of a packet of `len` bytes: 9 after them.
+fn copied(i: usize, len: usize) -> u8 {
+    if i < len { byte_at(i) } else { 9 }
 }
 
 // Whether the copy has the first `len` bytes of a packet and is unchanged after them.
 fn is_copy(copy: &[u8], len: usize) -> bool {
-    for i in 0..copy.len() {
-        let want = if i < len { byte_at(i) } else { 9 };
-        if copy[i] != want {
+    for (i, byte) in copy.iter().enumerate() {
+        if *byte != copied(i, len) {
             return false;
         }
     }
@@ -107,60 +128,82 @@ fn has_lengths(packet: &Packet, lengths: &[usize]) -> bool {
     true
 }
 
+// The lengths of a packet's segments, and its length.
+const PACKETS: &[(&[usize], usize)] = &[
+    (&[14], 14),
+    (&[2_048], 2_048),
+    (&[1, 13], 14),
+    (&[1; 14], 14),
+    (&[1_000; 15], 15_000),
+];
+
 #[test]
 fn bytes_are_those_of_the_segments_in_order(rt: HostRuntime) {
-    same(&rt, fault(&rt, rt.alloc(), &[14], 14), None);
-    same(&rt, fault(&rt, rt.alloc(), &[2_048], 2_048), None);
-    same(&rt, fault(&rt, rt.alloc(), &[1, 13], 14), None);
-    same(&rt, fault(&rt, rt.alloc(), &[1; 14], 14), None);
-    same(&rt, fault(&rt, rt.alloc(), &[1_000; 15], 15_000), None);
+    for (lengths, len) in PACKETS {
+        let fault = fault(&rt, rt.alloc(), lengths, *len);
+        same(&rt, (*lengths, fault), (*lengths, None));
+    }
+}
+
+// A buffer's number and length, its first and last byte, and how many of its bytes are 255.
+type Edges = (u16, usize, Option<u8>, Option<u8>, usize);
+
+// How many of the bytes are 255.
+fn overwritten(bytes: &[u8]) -> usize {
+    let mut count = 0usize;
+    for byte in bytes {
+        if *byte == 255 {
+            count = count.saturating_add(1);
+        }
+    }
+    count
+}
+
+// The edges of the packet's next buffer, if there is one.
+fn next_edges(packet: &mut Packet) -> Option<Edges> {
+    let buf = packet.pop_front()?;
+    let bytes = buf.bytes();
+    let (first, last) = (bytes.first().copied(), bytes.last().copied());
+    Some((buf.number(), buf.len(), first, last, overwritten(bytes)))
+}
+
+// Checks that byte `i` is read and overwritten.
+fn is_overwritten<R: Abort>(rt: &R, packet: &mut Packet, i: usize) {
+    let told = overwrite(packet, i);
+    same(rt, (i, told), (i, Some((byte_at(i), 255))));
 }
 
 // The first and last byte of each segment, and the buffers that hold them afterwards.
+const AT_EDGES: &[usize] = &[0, 1, 2, 2_049, 2_050, 2_051, 3_050];
+
+const OVERWRITTEN: &[Edges] = &[
+    (100, 2, Some(255), Some(255), 2),
+    (101, 2_048, Some(255), Some(255), 2),
+    (102, 1, Some(255), Some(255), 1),
+    (103, 1_000, Some(255), Some(255), 2),
+];
+
 #[test]
 fn a_byte_at_each_edge_is_read_and_written(rt: HostRuntime) {
     let mut packet = packet(&rt, rt.alloc(), &[2, 2_048, 1, 1_000]);
-    for i in [0, 1, 2, 2_049, 2_050, 2_051, 3_050] {
-        same(
-            &rt,
-            (i, overwrite(&mut packet, i)),
-            (i, Some((byte_at(i), 255))),
-        );
+    for i in AT_EDGES {
+        is_overwritten(&rt, &mut packet, *i);
     }
-    let wanted = [
-        (100, 2, 255, 255),
-        (101, 2_048, 255, 255),
-        (102, 1, 255, 255),
-        (103, 1_000, 255, 255),
-    ];
-    for (number, len, first, last) in wanted {
-        let buf = packet.pop_front().expect(&rt, "a buffer");
-        same(&rt, buf.number(), number);
-        same(&rt, buf.len(), len);
-        same(&rt, buf.bytes().first().copied(), Some(first));
-        same(&rt, buf.bytes().last().copied(), Some(last));
-        same(
-            &rt,
-            buf.bytes().iter().filter(|b| **b == 255).count(),
-            len.min(2),
-        );
+    for wanted in OVERWRITTEN {
+        same(&rt, next_edges(&mut packet), Some(*wanted));
     }
-    holds(&rt, packet.pop_front().is_none());
+    same(&rt, next_edges(&mut packet), None);
     holds(&rt, packet.is_empty());
 }
 
+// The length of a packet's only segment, and whether it is complete.
+const OF_ONE_SEGMENT: &[(usize, bool)] = &[(13, false), (14, true), (2_048, true)];
+
 #[test]
 fn only_lawful_packets_are_whole(rt: HostRuntime) {
-    let mut stock = Stock::new(rt.alloc(), 0, 16).expect(&rt, "a stock");
-    for (len, want) in [(13, false), (14, true), (2_048, true)] {
-        let mut buf = stock.take().expect(&rt, "a buffer");
-        let bytes = Vec::from_elem(rt.alloc(), 1u8, len).expect(&rt, "bytes");
-        let mut packet = Packet::default();
-        holds(&rt, !packet.is_whole());
-        if !bytes.is_empty() && bytes.len() <= buf.capacity() {
-            buf.fill(&bytes);
-            packet.push_back(buf);
-        }
-        same(&rt, packet.is_whole(), want);
+    holds(&rt, !Packet::default().is_whole());
+    for (len, wanted) in OF_ONE_SEGMENT {
+        let is_whole = grown(&rt, rt.alloc(), &[*len]).is_whole();
+        same(&rt, (*len, is_whole), (*len, *wanted));
     }
 }

@@ -1,6 +1,6 @@
 //! Registers: what is written is read, none falls, and a reader in another thread follows the writer.
 
-use crate::tests::wanted::holds;
+use crate::tests::wanted::{holds, same};
 use counters::{RegisterReader, RegisterWriter};
 use std::thread;
 
@@ -41,14 +41,12 @@ fn a_reader_follows_its_writer(rt: HostRuntime) {
 fn no_register_falls(rt: HostRuntime) {
     let mut writer = RegisterWriter::new(rt.alloc(), 2).expect(&rt, "registers");
     let mut reader = writer.reader().expect(&rt, "a reader");
-    assert_eq!(rt; reader.get(0), Some(0));
-    holds(&rt, writer.set(0, 5) && writer.set(0, 5));
-    holds(&rt, !writer.set(0, 4) && !writer.set(2, 6));
+    same(&rt, reader.get(0), Some(0));
+    same(&rt, (writer.set(0, 5), writer.set(0, 5)), (true, true));
+    same(&rt, (writer.set(0, 4), writer.set(2, 6)), (false, false));
     let mut later = writer.reader().expect(&rt, "another reader");
     drop(writer);
-    assert_eq!(rt;
-        (reader.get(0), reader.get(1), reader.get(2)),
-        (Some(5), Some(0), None)
-    );
-    assert_eq!(rt; later.get(0), Some(5));
+    let told = (reader.get(0), reader.get(1), reader.get(2));
+    same(&rt, told, (Some(5), Some(0), None));
+    same(&rt, later.get(0), Some(5));
 }

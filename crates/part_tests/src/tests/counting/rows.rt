@@ -2,10 +2,10 @@
 ghost use Rattle.std.specs.Prelude.{◌≡◌};
 ghost use Rattle.counters.specs.Snapshots.{NoneFalls};
 
-use crate::tests::wanted::holds;
+use crate::tests::wanted::{holds, same};
 use counters::{
-    ByteCell, Bytes, CounterError, DRIVEN_NUMBERS, Driven, FlowCells, RegisterWriter, Snapshot,
-    SnapshotCell, SnapshotPass, TALLY_NUMBERS, Tally,
+    ByteCell, Bytes, CounterError, DRIVEN_NUMBERS, Driven, FlowCells, RegisterReader,
+    RegisterWriter, Snapshot, SnapshotCell, SnapshotPass, TALLY_NUMBERS, Tally,
 };
 use std::alloc::Global;
 use std::fmt::Debug;
@@ -22,7 +22,7 @@ pub fn shows<R: Abort + Wait, T: Snapshot<N> + PartialEq + Debug, const N: usize
     requires own { pass.old.cell ≡ cell.now }
     ensures own { pass.new.cell ≡ pass.old.cell }
 {
-    assert_eq!(rt; cell.read(rt, pass), numbers);
+    same(rt, cell.read(rt, pass), numbers);
 }
 
 /// A pass shows the opening first and then the written numbers. A pass that begins afterwards shows the latter.
@@ -36,9 +36,9 @@ fn what_is_written_is_read<R: Abort + Wait, T: Snapshot<N> + PartialEq + Debug, 
 {
     let (cell, mut pen, mut told_before) = SnapshotCell::<T, N>::new(alloc).expect(rt, "a cell");
     shows(rt, &cell, &mut told_before, T::opening());
-    assert_eq!(rt; cell.last(rt, &mut pen), T::opening());
+    same(rt, cell.last(rt, &mut pen), T::opening());
     cell.write(rt, &mut pen, numbers);
-    assert_eq!(rt; cell.last(rt, &mut pen), numbers);
+    same(rt, cell.last(rt, &mut pen), numbers);
     let mut told_after = pen.pass();
     shows(rt, &cell, &mut told_after, numbers);
     shows(rt, &cell, &mut told_before, numbers);
@@ -117,22 +117,32 @@ fn is_of_memory(refused: CounterError) -> bool {
     refused == CounterError::Memory && refused.number() == 61
 }
 
+// Whether it is made, or memory is refused.
+fn is_made<T: Drop>(made: Result<T, CounterError>) -> bool {
+    match made {
+        Ok(_) => true,
+        Err(refused) => is_of_memory(refused),
+    }
+}
+
+// Whether the cells and pens of two flows are made, or memory is refused.
+fn are_two_or_of_memory(alloc: Global) -> bool {
+    match FlowCells::of(alloc, 2) {
+        Ok((cells, pens)) => cells.len() == 2 && pens.len() == 2,
+        Err(refused) => is_of_memory(refused),
+    }
+}
+
+// A reader of two registers.
+fn registers(alloc: Global) -> Result<RegisterReader, CounterError> {
+    let mut writer = RegisterWriter::new(alloc, 2)?;
+    writer.reader()
+}
+
 // Also passes if any one allocation is refused, as by `rt try --test --fail-alloc N`.
 #[test]
 fn want_of_memory(rt: HostRuntime) {
-    match FlowCells::of(rt.alloc(), 2) {
-        Ok((cells, pens)) => holds(&rt, cells.len() == 2 && pens.len() == 2),
-        Err(refused) => holds(&rt, is_of_memory(refused)),
-    }
-    if let Err(refused) = ByteCell::new(rt.alloc()) {
-        holds(&rt, is_of_memory(refused));
-    }
-    match RegisterWriter::new(rt.alloc(), 2) {
-        Ok(mut writer) => {
-            if let Err(refused) = writer.reader() {
-                holds(&rt, is_of_memory(refused));
-            }
-        }
-        Err(refused) => holds(&rt, is_of_memory(refused)),
-    }
+    holds(&rt, are_two_or_of_memory(rt.alloc()));
+    holds(&rt, is_made(ByteCell::new(rt.alloc())));
+    holds(&rt, is_made(registers(rt.alloc())));
 }

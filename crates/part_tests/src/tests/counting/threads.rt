@@ -5,6 +5,7 @@ ghost use Rattle.counters.specs.Kinds.{nothing};
 use crate::tests::counting::rows::shows;
 use crate::tests::wanted::holds;
 use counters::{Snapshot, StatCell, StatPass, StatPen, Tally};
+use std::process::Abort;
 use std::sync::Wait;
 use std::thread;
 use std::thread::Threads;
@@ -38,6 +39,12 @@ fn write_all<R: Wait>(rt: &R, cell: &StatCell, mut pen: StatPen) -> StatPen
     pen
 }
 
+/// Whether this is the opening or a written moment.
+fn is_row(now: Tally) -> bool {
+    let writes = now.oversize;
+    writes <= WRITES && now == row(writes) && now.is_lawful()
+}
+
 /// Whether each moment read is the opening or a written one, and none is older than the one before.
 fn read_all<R: Wait>(rt: &R, cell: &StatCell, mut pass: StatPass) -> bool
     requires own { pass.cell ≡ cell.now }
@@ -45,11 +52,10 @@ fn read_all<R: Wait>(rt: &R, cell: &StatCell, mut pass: StatPass) -> bool
     let mut last = 0;
     for _ in 0..WRITES {
         let now = cell.read(rt, &mut pass);
-        let writes = now.oversize;
-        if writes < last || writes > WRITES || now != row(writes) || !now.is_lawful() {
+        if now.oversize < last || !is_row(now) {
             return false;
         }
-        last = writes;
+        last = now.oversize;
     }
     true
 }
@@ -71,18 +77,26 @@ fn read_in_two<R: Threads + Wait + Sync>(
     first && second
 }
 
+/// After all writes, a pass that begins now and an earlier one show the last row.
+fn both_show<R: Abort + Wait>(rt: &R, cell: &StatCell, mut pen: StatPen, mut earlier: StatPass)
+    requires pen { pen.cell ≡ cell.now }
+    requires earlier { earlier.cell ≡ cell.now }
+{
+    let mut later = pen.pass();
+    shows(rt, cell, &mut later, row(WRITES));
+    shows(rt, cell, &mut earlier, row(WRITES));
+}
+
 #[test]
 fn no_number_falls_and_each_read_adds_up(rt: HostRuntime) {
     let (cell, mut pen, mut first) = StatCell::new(rt.alloc()).expect(&rt, "a cell");
     let second = cell.split(&mut first);
-    let mut told_before = pen.pass();
-    let (mut pen, good) = thread::join(
+    let earlier = pen.pass();
+    let (pen, good) = thread::join(
         &rt,
         || write_all(&rt, &cell, pen),
         || read_in_two(&rt, &cell, first, second),
     );
     holds(&rt, good);
-    let mut told_after = pen.pass();
-    shows(&rt, &cell, &mut told_after, row(WRITES));
-    shows(&rt, &cell, &mut told_before, row(WRITES));
+    both_show(&rt, &cell, pen, earlier);
 }

@@ -3,7 +3,7 @@
 use crate::tests::wanted::{holds, same};
 use descriptor::{DescError, Descriptor, RxBack, RxRead, TxBack, TxRead};
 use std::alloc::Global;
-use std::fmt::Display;
+use std::fmt::{Debug, Display};
 use std::process::Abort;
 
 // A written-back descriptor: 60 bytes with EOP.
@@ -19,9 +19,20 @@ const RX_READ: [u8; 16] = [0, 0xf8, 0xff, 7, 0, 0, 0, 0, 0, 0, 0, 0, 0, 0, 0, 0]
 
 const TX_BACK: [u8; 16] = [0, 0, 0, 0, 0, 0, 0, 0, 0, 0, 0, 0, 1, 0, 0, 0];
 
+// A written-back descriptor: 2,048 bytes without EOP.
+const FULL_RX_BACK: [u8; 16] = [0, 0, 0, 0, 0, 0, 0, 0, 1, 0, 0, 0, 0, 8, 0, 0];
+
+// Buffer 65,535 with the last 2,048 bytes of a frame of 15,000, and RS.
+const GREATEST_TX_READ: [u8; 16] = [
+    0, 0xf8, 0xff, 7, 0, 0, 0, 0, 0, 8, 0x30, 0x2b, 0, 0, 0xa6, 0x0e,
+];
+
 // The number of the refusal, or 0 if the bytes are accepted.
 fn refusal<T: Drop>(answer: Result<T, DescError>) -> u8 {
-    answer.err().map_or(0, |error| error.number())
+    match answer {
+        Ok(_) => 0,
+        Err(error) => error.number(),
+    }
 }
 
 // The bytes with one of their 128 bits flipped; bit 0 is the lowest bit of the first byte.
@@ -32,42 +43,36 @@ fn flipped(mut bytes: [u8; 16], bit: usize) -> [u8; 16] {
     bytes
 }
 
+// Checks that the descriptor has these bytes, and these bytes the descriptor.
+fn is_coded<R: Abort, D: Descriptor + PartialEq + Debug + Copy + Drop>(
+    rt: &R,
+    descriptor: D,
+    bytes: [u8; 16],
+) {
+    same(rt, descriptor.to_bytes(), bytes);
+    same(rt, D::from_bytes(&bytes), Ok(descriptor));
+}
+
 #[test]
 fn each_form_is_coded_both_ways(rt: HostRuntime) {
-    let back = RxBack::new(60, true);
-    same(&rt, back.to_bytes(), RX_BACK);
-    same(&rt, RxBack::from_bytes(&RX_BACK), Ok(back));
-    let full = [0, 0, 0, 0, 0, 0, 0, 0, 1, 0, 0, 0, 0, 8, 0, 0];
-    same(&rt, RxBack::new(2_048, false).to_bytes(), full);
-    same(
-        &rt,
-        RxBack::from_bytes(&full),
-        Ok(RxBack::new(2_048, false)),
-    );
-    let posted = TxRead::new(5, 60, true, true, 60);
-    same(&rt, posted.to_bytes(), TX_READ);
-    same(&rt, TxRead::from_bytes(&TX_READ), Ok(posted));
-    let greatest = [
-        0, 0xf8, 0xff, 7, 0, 0, 0, 0, 0, 8, 0x30, 0x2b, 0, 0, 0xa6, 0x0e,
-    ];
-    let posted = TxRead::new(65_535, 2_048, true, true, 15_000);
-    same(&rt, posted.to_bytes(), greatest);
-    same(&rt, TxRead::from_bytes(&greatest), Ok(posted));
-    same(&rt, RxRead { number: 65_535 }.to_bytes(), RX_READ);
-    same(
-        &rt,
-        RxRead::from_bytes(&RX_READ),
-        Ok(RxRead { number: 65_535 }),
-    );
-    same(&rt, TxBack.to_bytes(), TX_BACK);
-    same(&rt, TxBack::from_bytes(&TX_BACK), Ok(TxBack));
+    is_coded(&rt, RxBack::new(60, true), RX_BACK);
+    is_coded(&rt, RxBack::new(2_048, false), FULL_RX_BACK);
+    is_coded(&rt, TxRead::new(5, 60, true, true, 60), TX_READ);
+    let greatest = TxRead::new(65_535, 2_048, true, true, 15_000);
+    is_coded(&rt, greatest, GREATEST_TX_READ);
+    is_coded(&rt, RxRead { number: 65_535 }, RX_READ);
+    is_coded(&rt, TxBack, TX_BACK);
 }
 
 // How many of the 128 forms with one flipped bit are refused with this number, or accepted for 0.
 fn refused_alike<D: Descriptor + Drop>(bytes: [u8; 16], wanted: u8) -> usize {
-    (0..128)
-        .filter(|bit| refusal(D::from_bytes(&flipped(bytes, *bit))) == wanted)
-        .count()
+    let mut count = 0usize;
+    for bit in 0..128 {
+        if refusal(D::from_bytes(&flipped(bytes, bit))) == wanted {
+            count = count.saturating_add(1);
+        }
+    }
+    count
 }
 
 #[test]
@@ -124,28 +129,40 @@ fn the_lowest_refusal_is_answered(rt: HostRuntime) {
     same(&rt, RxBack::from_bytes(&bytes), Err(DescError::Reserved));
 }
 
+// The data length and the PAYLEN of a posted descriptor, and the refusal.
+const POSTED: &[(u16, u16, u8)] = &[
+    (0, 60, 4),
+    (1, 60, 0),
+    (2_048, 60, 0),
+    (2_049, 60, 4),
+    (1, 13, 4),
+    (1, 14, 0),
+    (2_048, 15_000, 0),
+    (2_048, 15_001, 4),
+];
+
+// The data length of a written-back descriptor, and the refusal.
+const WRITTEN_BACK: &[(u16, u8)] = &[(0, 4), (1, 0), (2_048, 0), (2_049, 4)];
+
+// The refusal of a posted descriptor with these lengths.
+fn of_posted(len: u16, paylen: u16) -> u8 {
+    let second = 0x2b30_0000 + u64::from(len) + u64::from(paylen) * (1 << 46);
+    refusal(TxRead::from_words(2_048 * 65_535, second))
+}
+
+// The refusal of a written-back descriptor with this length.
+fn of_written_back(len: u16) -> u8 {
+    refusal(RxBack::from_second_word(3 + u64::from(len) * (1 << 32)))
+}
+
 #[test]
 fn lengths_are_judged_at_their_limits(rt: HostRuntime) {
-    let buffer: u64 = 2_048 * 65_535;
-    for (lens, wanted) in [
-        ((0u16, 60u16), 4),
-        ((1, 60), 0),
-        ((2_048, 60), 0),
-        ((2_049, 60), 4),
-        ((1, 13), 4),
-        ((1, 14), 0),
-        ((2_048, 15_000), 0),
-        ((2_048, 15_001), 4),
-    ] {
-        let (len, paylen) = lens;
-        let posted = 0x2b30_0000 + u64::from(len) + u64::from(paylen) * (1 << 46);
-        let answer = TxRead::from_words(buffer, posted);
-        same(&rt, (lens, refusal(answer)), (lens, wanted));
+    for (len, paylen, wanted) in POSTED {
+        let told = of_posted(*len, *paylen);
+        same(&rt, (*len, *paylen, told), (*len, *paylen, *wanted));
     }
-    for (len, wanted) in [(0u16, 4), (1, 0), (2_048, 0), (2_049, 4)] {
-        let back = 3 + u64::from(len) * (1 << 32);
-        let answer = RxBack::from_second_word(back);
-        same(&rt, (len, refusal(answer)), (len, wanted));
+    for (len, wanted) in WRITTEN_BACK {
+        same(&rt, (*len, of_written_back(*len)), (*len, *wanted));
     }
 }
 

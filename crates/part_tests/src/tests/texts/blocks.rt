@@ -1,8 +1,8 @@
 //! Captures in pcapng: the blocks that are read, the refusals, and times. The bytes follow the format's draft.
 
-use crate::tests::texts::files::{Answer, Parts, answer_with, joined};
+use crate::tests::texts::files::{Answer, Parts, answer_with, is_record, joined};
 use crate::tests::wanted::same;
-use capture::{CaptureRecord, ReadOptions, TimeUnit, read};
+use capture::{ReadOptions, TimeUnit, read};
 use std::alloc::Global;
 use std::process::Abort;
 
@@ -186,19 +186,13 @@ const TIMES: &[(Parts, (u32, u32))] = &[
     (&[SECTION, ETHERNET, SIMPLE], (0, 0)),
 ];
 
-fn is_record<R: Abort>(rt: &R, found: &CaptureRecord<'_>, time: (u32, u32)) {
-    same(rt, (found.seconds(), found.fraction()), time);
-    same(rt, found.wire_len(), 14);
-    same(rt, found.frame(), b"abcdefghijklmn");
-}
-
-fn has_time<R: Abort>(rt: &R, alloc: Global, (parts, time): (Parts, (u32, u32))) {
+fn has_time<R: Abort>(rt: &R, alloc: Global, (parts, (seconds, nanos)): (Parts, (u32, u32))) {
     let bytes = joined(alloc, parts).expect(rt, "memory");
     let capture = read(alloc, bytes.as_slice()).expect(rt, "a capture");
     same(rt, (parts, capture.unit()), (parts, TimeUnit::Nanos));
     same(rt, capture.records().len(), 1);
     for found in capture.records() {
-        is_record(rt, found, time);
+        is_record(rt, found, (seconds, nanos, 14));
     }
 }
 

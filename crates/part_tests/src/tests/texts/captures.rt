@@ -1,15 +1,12 @@
 //! Captures that are refused, and the order of refusals.
 
-use crate::tests::texts::files::joined;
+use crate::tests::texts::files::{FRAME, is_record, joined};
 use crate::tests::wanted::same;
 use capture::{CaptureError, CaptureRecord, TimeUnit, read, write};
 use std::alloc::Global;
 use std::process::Abort;
 
-/// A frame of 14 bytes.
-const FRAME: &[u8] = b"abcdefghijklmn";
-
-/// Its first 13 bytes.
+/// The first 13 bytes of `FRAME`.
 const FRAME_13: &[u8] = b"abcdefghijklm";
 
 /// Headers of version 2.4 for Ethernet: in microseconds in each order, and in nanoseconds.
@@ -106,19 +103,13 @@ const RECORDS: &[(&[&[u8]], TimeUnit, u32)] = &[
     (&[LITTLE, LESS_ON_WIRE, FRAME], TimeUnit::Micros, 3),
 ];
 
-fn is_record<R: Abort>(rt: &R, found: &CaptureRecord<'_>, wire_len: u32) {
-    let told = (found.seconds(), found.fraction(), found.wire_len());
-    same(rt, told, (1, 2, wire_len));
-    same(rt, found.frame(), FRAME);
-}
-
 /// The file with these parts has that record.
 fn has_record<R: Abort>(rt: &R, alloc: Global, (parts, unit, wire_len): (&[&[u8]], TimeUnit, u32)) {
     let bytes = joined(alloc, parts).expect(rt, "memory");
     let capture = read(alloc, bytes.as_slice()).expect(rt, "a capture");
     same(rt, (parts, capture.unit()), (parts, unit));
     for found in capture.records() {
-        is_record(rt, found, wire_len);
+        is_record(rt, found, (1, 2, wire_len));
     }
 }
 

@@ -1,7 +1,9 @@
-//! Files that are joined from parts, and the answers to reading them.
+//! Files that are joined from parts, the answers to reading them, and their records.
 
-use capture::{ReadOptions, read_with};
+use crate::tests::wanted::same;
+use capture::{CaptureRecord, ReadOptions, read_with};
 use std::alloc::{AllocError, Global};
+use std::process::Abort;
 
 /// Parts of a file.
 pub type Parts = &'static [&'static [u8]];
@@ -24,6 +26,16 @@ pub fn answer_with(alloc: Global, bytes: &[u8], options: ReadOptions) -> Answer 
         }
         Err(refused) => Err((refused.number(), refused.record().unwrap_or(0))),
     }
+}
+
+/// A frame of 14 bytes.
+pub const FRAME: &[u8] = b"abcdefghijklmn";
+
+/// Checks a record's seconds, fraction and length on the wire, and that it has that frame.
+pub fn is_record<R: Abort>(rt: &R, found: &CaptureRecord<'_>, wanted: (u32, u32, u32)) {
+    let told = (found.seconds(), found.fraction(), found.wire_len());
+    same(rt, told, wanted);
+    same(rt, found.frame(), FRAME);
 }
 
 /// Joins the parts of a file.

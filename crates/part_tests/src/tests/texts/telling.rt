@@ -1,5 +1,6 @@
 //! Details of a refused file.
 
+use crate::tests::texts::files::joined;
 use crate::tests::wanted::same;
 use capture::{Fault, fault_details, is_gzip, link_type_name, link_type_of};
 use std::alloc::{AllocError, Global};
@@ -39,11 +40,7 @@ fn details(alloc: Global, bytes: &[u8], number: u64) -> Option<Details> {
 fn faulty(alloc: Global) -> Result<Vec<u8>, AllocError> {
     let frame = [0xa5u8; 15_001];
     let parts: [&[u8]; 7] = [ETHERNET, WHOLE, SNAPPED, LONG, &frame, SHORT, CUT];
-    let mut bytes = Vec::new(alloc);
-    for part in parts {
-        bytes.extend_from_slice(part)?;
-    }
-    Ok(bytes)
+    joined(alloc, &parts)
 }
 
 const DETAILS: &[(u64, Option<Details>)] = &[

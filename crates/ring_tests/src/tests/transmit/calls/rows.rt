@@ -9,7 +9,9 @@ use ring_machine::SegmentDescriptor;
 use ring_model::{FetchedSegment, Note, TxStep};
 use std::alloc::Global;
 use std::process::Abort;
-use tx_ring::{Completion, ControllerEnd, DriverEnd, RingError, TxRing};
+use tx_ring::{
+    Completion, ControllerEnd, DriverEnd, RingError, TxControllerEnd, TxDriverEnd, TxRing,
+};
 
 const BOTH_WAYS: [Completion; 2] = [Completion::Status, Completion::Head];
 
@@ -251,14 +253,26 @@ fn second_words_are_those_of_the_datasheet(rt: HostRuntime) {
     come_out(&rt, rt.alloc(), 16, LONG)
 }
 
-/// The sizes of a new ring's ends, and its room. For `None` the ring is made by `new`.
-fn sizes(alloc: Global, n: u32, completion: Option<Completion>) -> Result<[u32; 3], RingError> {
-    let made = match completion {
+/// A ring with its two ends.
+type Ring = (TxRing, TxDriverEnd, TxControllerEnd);
+
+/// A new ring. For `None` it is made by `new`.
+fn made(alloc: Global, n: u32, completion: Option<Completion>) -> Result<Ring, RingError> {
+    match completion {
         Some(completion) => TxRing::new_with(alloc, n, completion),
         None => TxRing::new(alloc, n),
-    };
-    let (_ring, driver, controller) = made?;
-    Ok([driver.size(), controller.size(), driver.room()])
+    }
+}
+
+/// The sizes of a ring's ends, and its room.
+fn sizes_of(driver: &TxDriverEnd, controller: &TxControllerEnd) -> [u32; 3] {
+    [driver.size(), controller.size(), driver.room()]
+}
+
+/// The same numbers of a new ring.
+fn sizes(alloc: Global, n: u32, completion: Option<Completion>) -> Result<[u32; 3], RingError> {
+    let (_ring, driver, controller) = made(alloc, n, completion)?;
+    Ok(sizes_of(&driver, &controller))
 }
 
 const LAWFUL: &[u32] = &[8, 16, 32, 64, 128, 256, 512, 1_024, 2_048, 4_096];

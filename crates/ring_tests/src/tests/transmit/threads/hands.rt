@@ -38,8 +38,8 @@ impl Passed {
     }
 }
 
-/// Asks for the wanted state, enabled or disabled, and waits for it.
-pub(crate) fn ask_for<R: Wait>(rt: &R, ring: &TxRing, driver: &mut TxDriverEnd, wanted: Control)
+/// Asks for the wanted state, enabled or disabled, if that can be asked now.
+fn ask(ring: &TxRing, driver: &mut TxDriverEnd, wanted: Control)
     requires { driver.old.table ≡ ring.now }
     ensures { driver.new.table ≡ ring.now }
 {
@@ -48,6 +48,14 @@ pub(crate) fn ask_for<R: Wait>(rt: &R, ring: &TxRing, driver: &mut TxDriverEnd, 
         Control::Disabled if driver.is_on() => driver.ask_disable(ring),
         _ => {}
     }
+}
+
+/// Asks for the wanted state, and waits for it.
+pub(crate) fn ask_for<R: Wait>(rt: &R, ring: &TxRing, driver: &mut TxDriverEnd, wanted: Control)
+    requires { driver.old.table ≡ ring.now }
+    ensures { driver.new.table ≡ ring.now }
+{
+    ask(ring, driver, wanted);
     for _ in rt.forever() {
         if driver.state(ring) == wanted {
             return;
@@ -181,10 +189,11 @@ pub(crate) fn fetch(ring: &TxRing, controller: &mut TxControllerEnd) -> Option<(
     ensures own { controller.new.table ≡ ring.now }
     ensures holds { IfSome result (λ fetched. held controller.new ≡ Some fetched.0) }
 {
-    if !controller.is_serving() || controller.is_holding() || controller.owes_report() {
-        return None;
-    }
-    if controller.look(ring) == 0 {
+    if !controller.is_serving()
+        || controller.is_holding()
+        || controller.owes_report()
+        || controller.look(ring) == 0
+    {
         return None;
     }
     Some(controller.fetch(ring))
