@@ -72,10 +72,9 @@ fn is_whole(flow: &FlowReport, count: u64) -> bool {
         flow.tally.stored,
         flow.driven.taken,
         flow.driven.posted,
+        flow.wire.len() as u64,
     ];
-    counts.iter().all(|number| *number == count)
-        && flow.wire.len() as u64 == count
-        && flow.ended == Ended::Drained
+    counts == [count; 5] && flow.ended == Ended::Drained
 }
 
 /// Whether all frames of the workload were sent, each on its flow.

@@ -1,5 +1,6 @@
 pub mod Copies
 pub mod Forwards
+pub mod Enabled
 pub mod Handshakes
 pub mod BothMet
 pub mod Taken

@@ -10,7 +10,7 @@ ghost use Rattle.ring_bench.specs.declared.kit.supply.TheConstants.{BYTE};
 
 use crate::kit::{
     BatchPlan, Ends, Forwarder, Tally, Timed, Track, Way, answer_enabling, both, meet, now, send,
-    since, store,
+    since, store_next,
 };
 use anyhow::Result;
 use rx_ring::{ControllerEnd, RxControllerEnd, RxRing};
@@ -153,10 +153,9 @@ fn store_more(ring: &RxRing, controller: &mut RxControllerEnd, frame: &[u8], mos
     ensures most { result ≤ most }
 {
     for stored in 0..most {
-        if controller.free() == 0 && controller.look(ring) == 0 {
+        if !store_next(ring, controller, frame) {
             return stored;
         }
-        store(ring, controller, frame);
     }
     most
 }

@@ -21,3 +21,16 @@ pub fn send(ring: &TxRing, controller: &mut TxControllerEnd, tally: &mut Tally)
         controller.report(ring);
     }
 }
+
+/// Sends the next frame, if one is ready. Loads the tail only when it knows of none. Returns whether it sent.
+#[inline]
+pub fn send_next(ring: &TxRing, controller: &mut TxControllerEnd, tally: &mut Tally) -> bool
+    requires can { CanFetch ring.now controller.old }
+    ensures served { HasServed ring.now controller.old.completion controller.new }
+{
+    if controller.ready() == 0 && controller.look(ring) == 0 {
+        return false;
+    }
+    send(ring, controller, tally);
+    true
+}

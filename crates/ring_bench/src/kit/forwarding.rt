@@ -60,7 +60,7 @@ impl Forwarder {
     {
         let receives = self.rx.enable(from)?;
         let sends = self.tx.enable(to)?;
-        Ok(receives && sends)
+        Ok(receives & sends)
     }
 
     /// Checks that both queues are enabled, after the request and its answer. Refuses if one is not.

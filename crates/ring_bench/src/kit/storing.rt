@@ -9,7 +9,7 @@ use rx_ring::{ControllerEnd, RxControllerEnd, RxRing};
 
 /// Stores the frame in the next descriptor.
 #[inline]
-pub fn store(ring: &RxRing, controller: &mut RxControllerEnd, frame: &[u8])
+fn store(ring: &RxRing, controller: &mut RxControllerEnd, frame: &[u8])
     requires size { IsRingLength ring.now.slots }
     requires can { CanStore ring.now frame.now controller.old }
     requires free { 0 < known_free controller.old }
@@ -19,4 +19,20 @@ pub fn store(ring: &RxRing, controller: &mut RxControllerEnd, frame: &[u8])
     let mut buf = controller.fetch(ring);
     buf.fill(frame);
     controller.write_back(ring, buf, true);
+}
+
+/// Stores the frame in the next descriptor, if one is free. Loads the tail only when it knows of none. Returns whether
+/// it stored.
+#[inline]
+pub fn store_next(ring: &RxRing, controller: &mut RxControllerEnd, frame: &[u8]) -> bool
+    requires size { IsRingLength ring.now.slots }
+    requires can { CanStore ring.now frame.now controller.old }
+    requires frame { IsFrameLength (length frame.now) }
+    ensures { CanStore ring.now frame.now controller.new }
+{
+    if controller.free() == 0 && controller.look(ring) == 0 {
+        return false;
+    }
+    store(ring, controller, frame);
+    true
 }

@@ -8,7 +8,7 @@ ghost use Rattle.ring_bench.specs.Serving.{AreAtWork, HasGone, HasNothing, Serve
 ghost use Rattle.ring_bench.specs.declared.kit.supply.TheConstants.{BYTE};
 
 use crate::kit::{
-    BatchPlan, Ends, Forwarder, Patience, Timed, Track, Way, both, meet, no_thread, now, since,
+    BatchPlan, Ends, Forwarder, Patience, Timed, Track, Way, beside, both, meet, now, since,
 };
 use crate::pass::serving::Device;
 use crate::pass::words::Threading;
@@ -18,7 +18,6 @@ use std::alloc::Global;
 use std::rt::Clock;
 use std::sync::Wait;
 use std::sync::atomic::{AtomicBool, Ordering};
-use std::thread;
 use std::thread::{Promise, Threads};
 use std::time::{Duration, Instant};
 
@@ -194,25 +193,13 @@ fn in_threads<R: Threads + Wait + Sync>(
     let Sides { device, forwarder } = sides;
     let stop = AtomicBool::new(false);
     let stop = &stop;
-    thread::scope(
-        thread::scope_env(),
+    let (device, forwarder) = beside(
         rt,
-        move |scope| -> Result<Sides>
-            requires { AreAtWork way.now.from way.now.to way.now.frame.items device forwarder }
-            ensures { IfOk result (λ s. AreAtWork way.entry.now.from way.entry.now.to way.entry.now.frame.items s.device s.forwarder) }
-        {
-            let serving = scope.spawn_with(ServesOn(way), move || {
-                serve_all(rt, way, plan, device, stop)
-            });
-            match serving {
-                Ok(serving) => {
-                    let forwarded = forward_all(rt, way, plan, forwarder, stop);
-                    joined(serving.join(rt), forwarded)
-                }
-                Err(unmade) => no_thread(unmade, forwarder),
-            }
-        },
-    )
+        ServesOn(way),
+        move || serve_all(rt, way, plan, device, stop),
+        move || forward_all(rt, way, plan, forwarder, stop),
+    )?;
+    joined(device, forwarder)
 }
 
 /// Returns both sides, or the first error.

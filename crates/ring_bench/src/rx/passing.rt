@@ -7,7 +7,7 @@ ghost use Rattle.ring_bench.specs.Storing.{StoredOnly};
 ghost use Rattle.ring_bench.specs.declared.kit.supply.TheConstants.{BYTE};
 ghost use Rattle.ring_bench.specs.Passing.{CanAsk, CanPass, HasPassed, TookAll};
 
-use crate::kit::{BatchPlan, Run, Timed, both, frame_of, no_thread, now, since, stock_for};
+use crate::kit::{BatchPlan, Run, Timed, beside, both, frame_of, now, since, stock_for};
 use crate::rx::storing::store_all;
 use crate::rx::taking::{Reception, take_all};
 use anyhow::Result;
@@ -16,7 +16,6 @@ use rx_ring::{DriverEnd, RxControllerEnd, RxDriverEnd, RxRing, meet_rx};
 use std::alloc::Global;
 use std::rt::Clock;
 use std::sync::Wait;
-use std::thread;
 use std::thread::{Promise, Threads};
 use std::time::Duration;
 
@@ -131,30 +130,19 @@ fn in_threads<R: Threads + Wait + Sync>(rt: &R, run: RxRun<'_>, ends: Ends) -> R
 {
     let Run { ring, frame, plan } = run;
     let Ends { driver, controller } = ends;
-    thread::scope(
-        thread::scope_env(),
+    let (controller, reception) = beside(
         rt,
-        move |scope| -> Result<Passage>
-            requires { CanPass ring.now frame.now driver controller }
-            ensures driver { IfOk result (λ p. TookAll ring.entry.now plan.load.frames p.reception.driver) }
-            ensures controller { IfOk result (λ p. StoredOnly ring.entry.now frame.entry.now p.controller) }
-        {
-            let storing = scope.spawn_with(StoresOnly(ring, frame), move || {
-                store_all(rt, ring, controller, frame, plan.load.frames)
-            });
-            match storing {
-                Ok(storing) => {
-                    let reception = take_all(rt, Run::new(ring, frame, plan), driver);
-                    let controller = storing.join(rt);
-                    Ok(Passage {
-                        reception,
-                        controller,
-                    })
-                }
-                Err(unmade) => no_thread(unmade, driver),
-            }
-        },
-    )
+        StoresOnly(ring, frame),
+        move || store_all(rt, ring, controller, frame, plan.load.frames),
+        move || -> Reception
+            requires { CanAsk ring.now driver }
+            ensures { TookAll ring.entry.now plan.load.frames result.driver }
+        { take_all(rt, Run::new(ring, frame, plan), driver) },
+    )?;
+    Ok(Passage {
+        reception,
+        controller,
+    })
 }
 
 /// Posts a buffer of the stock at each free place, and publishes them.

@@ -5,8 +5,8 @@ ghost use Rattle.ring_bench.specs.Copies.{IsFrameLength};
 ghost use Rattle.ring_bench.specs.Enabling.{CanServe};
 ghost use Rattle.ring_bench.specs.Storing.{StoredOnly};
 
-use crate::kit::{Patience, answer_enabling, store};
-use rx_ring::{ControllerEnd, RxControllerEnd, RxRing};
+use crate::kit::{Patience, answer_enabling, store_next};
+use rx_ring::{RxControllerEnd, RxRing};
 use std::sync::Wait;
 
 /// Answers the enabling, and stores the frame `frames` times, each as soon as a descriptor is free. Loads the tail only
@@ -30,13 +30,12 @@ pub fn store_all<R: Wait>(
         if left == 0 {
             return controller;
         }
-        if controller.free() == 0 && controller.look(ring) == 0 {
+        if store_next(ring, &mut controller, frame) {
+            patience.reset();
+            left -= 1;
+        } else {
             patience.wait();
-            continue;
         }
-        patience.reset();
-        store(ring, &mut controller, frame);
-        left -= 1;
     }
     unreachable!()
 }

@@ -1,5 +1,5 @@
 //! The driver's thread of a receive ring.
-ghost use Rattle.std.specs.Prelude.{◌≡◌, ◌+◌, ◌≤◌, length};
+ghost use Rattle.std.specs.Prelude.{◌≡◌, ◌+◌, ◌≤◌, true, false, length};
 ghost use Rattle.rx_ring.specs.Ends.{taken};
 ghost use Rattle.ring_bench.specs.Passing.{CanAsk, CanTake, TookAll};
 
@@ -51,12 +51,26 @@ fn take_batch(ring: &RxRing, driver: &mut RxDriverEnd, most: u32, tally: &mut Ta
     ensures taken { length (taken driver.new) ≡ length (taken driver.old) + result }
 {
     for got in 0..most {
-        let Poll::Segment { mut buf, .. } = driver.poll(ring) else {
+        if !take_one(ring, driver, tally) {
             return got;
-        };
-        tally.add(buf.bytes());
-        buf.clear();
-        driver.post(ring, buf);
+        }
     }
     most
+}
+
+/// Takes the next frame, if it is done, and posts its buffer again. Returns whether there was one.
+#[inline]
+fn take_one(ring: &RxRing, driver: &mut RxDriverEnd, tally: &mut Tally) -> bool
+    requires can { CanTake ring.now driver.old }
+    ensures can { CanTake ring.now driver.new }
+    ensures taken { result ≡ true → length (taken driver.new) ≡ length (taken driver.old) + 1 }
+    ensures none { result ≡ false → taken driver.new ≡ taken driver.old }
+{
+    let Poll::Segment { mut buf, .. } = driver.poll(ring) else {
+        return false;
+    };
+    tally.add(buf.bytes());
+    buf.clear();
+    driver.post(ring, buf);
+    true
 }

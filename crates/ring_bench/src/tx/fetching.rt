@@ -2,9 +2,9 @@
 ghost use Rattle.ring_bench.specs.Enabling.{CanServe};
 ghost use Rattle.ring_bench.specs.Fetching.{HasServed};
 
-use crate::kit::{Patience, Tally, answer_enabling, send};
+use crate::kit::{Patience, Tally, answer_enabling, send_next};
 use std::sync::Wait;
-use tx_ring::{ControllerEnd, TxControllerEnd, TxRing};
+use tx_ring::{TxControllerEnd, TxRing};
 
 /// The result of the controller's thread, with a tally of the frames that it sent.
 #[derive(Drop)]
@@ -32,13 +32,12 @@ pub fn send_all<R: Wait>(
         if left == 0 {
             return Transmission { controller, tally };
         }
-        if controller.ready() == 0 && controller.look(ring) == 0 {
+        if send_next(ring, &mut controller, &mut tally) {
+            patience.reset();
+            left -= 1;
+        } else {
             patience.wait();
-            continue;
         }
-        patience.reset();
-        send(ring, &mut controller, &mut tally);
-        left -= 1;
     }
     unreachable!()
 }

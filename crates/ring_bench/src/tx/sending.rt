@@ -6,7 +6,7 @@ ghost use Rattle.ring_bench.specs.Fetching.{HasServed};
 ghost use Rattle.ring_bench.specs.declared.kit.supply.TheConstants.{BYTE};
 ghost use Rattle.ring_bench.specs.Sending.{CanEnable, CanSend, HasSent, PostedAll};
 
-use crate::kit::{Run, Timed, both, frame_of, no_thread, now, since, stock_for};
+use crate::kit::{Run, Timed, beside, both, frame_of, now, since, stock_for};
 use crate::tx::fetching::{Transmission, send_all};
 use crate::tx::posting::{Posted, post_all};
 use crate::tx::words::TxPlan;
@@ -15,7 +15,6 @@ use buffer_pool::Stock;
 use std::alloc::Global;
 use std::rt::Clock;
 use std::sync::Wait;
-use std::thread;
 use std::thread::{Promise, Threads};
 use std::time::Duration;
 use tx_ring::{Completion, TxControllerEnd, TxDriverEnd, TxRing, meet_tx};
@@ -139,26 +138,11 @@ fn in_threads<R: Threads + Wait + Sync>(rt: &R, run: TxRun<'_>, sides: Sides) ->
     let Run { ring, frame, plan } = run;
     let Sides { ends, stock } = sides;
     let Ends { driver, controller } = ends;
-    thread::scope(
-        thread::scope_env(),
+    let (sent, posted) = beside(
         rt,
-        move |scope| -> Result<Dispatch>
-            requires { CanSend ring.now plan frame.now driver controller stock }
-            ensures driver { IfOk result (λ d. PostedAll ring.entry.now plan frame.entry.now d.posted.driver) }
-            ensures controller { IfOk result (λ d. HasServed ring.entry.now plan.completion d.sent.controller) }
-        {
-            let serves = Serves(ring, plan.completion);
-            let sending = scope.spawn_with(serves, move || {
-                send_all(rt, ring, controller, plan.load.frames)
-            });
-            match sending {
-                Ok(sending) => {
-                    let posted = post_all(rt, ring, driver, stock, frame, plan);
-                    let sent = sending.join(rt);
-                    Ok(Dispatch { posted, sent })
-                }
-                Err(unmade) => no_thread(unmade, (driver, stock)),
-            }
-        },
-    )
+        Serves(ring, plan.completion),
+        move || send_all(rt, ring, controller, plan.load.frames),
+        move || post_all(rt, ring, driver, stock, frame, plan),
+    )?;
+    Ok(Dispatch { posted, sent })
 }
