@@ -1,9 +1,5 @@
-//! Wire scripts and captures.
+//! Wire scripts and captures: what no run of the program shows. `checks/runs` has their texts and bytes.
 
-mod blocks;
-mod captures;
-mod files;
+mod records;
 mod scripts;
-mod skipping;
-mod telling;
 mod written;
