@@ -68,7 +68,7 @@ pub(crate) fn script_of<R: Abort>(rt: &R, alloc: Global, bursts: &[Burst]) -> Sc
 }
 
 /// The script of these frames, if they are not too many.
-pub(crate) fn script_with(frames: Vec<WireFrame>) -> Option<Script> {
+fn script_with(frames: Vec<WireFrame>) -> Option<Script> {
     if frames.len() > 1_000_000 {
         None
     } else {

@@ -3,7 +3,6 @@
 use crate::tests::bursts::{Burst, script_of};
 use crate::tests::gathered::{are_back, are_back_at_the_end};
 use crate::tests::refusing::{is_left, is_refused};
-use crate::tests::rows::forty_go_both_ways;
 use crate::tests::wanted::same;
 use crate::tests::watched::are_shown;
 use std::alloc::Global;
@@ -29,7 +28,6 @@ pub(crate) const ONCE: &[u32] = &[0];
 /// The property that a trial checks.
 #[derive(Clone, Copy, Drop)]
 pub(crate) enum Asked {
-    FortyGo,
     IsRefused,
     IsLeft,
     AreBack,
@@ -40,7 +38,6 @@ pub(crate) enum Asked {
 impl Asked {
     fn is_so<R: Threads + Wait + Clock + Sync + Abort>(self, rt: &R, trial: Trial<'_>) -> bool {
         match self {
-            Asked::FortyGo => forty_go_both_ways(rt, trial),
             Asked::IsRefused => is_refused(rt, trial),
             Asked::IsLeft => is_left(rt, trial),
             Asked::AreBack => are_back(rt, trial),

@@ -1,7 +1,7 @@
 //! The times and lengths of captured records, which runs of the program do not print. The bytes follow the formats' drafts.
 
 use crate::tests::wanted::same;
-use capture::{TimeUnit, read};
+use capture::{CaptureRecord, TimeUnit, read};
 use std::alloc::{AllocError, Global};
 use std::process::Abort;
 
@@ -90,6 +90,13 @@ fn joined(alloc: Global, parts: &[&[u8]]) -> Result<Vec<u8>, AllocError> {
     Ok(bytes)
 }
 
+// Checks a record's seconds, fraction and length on the wire, and that it has the frame.
+fn is_record<R: Abort>(rt: &R, found: &CaptureRecord<'_>, wanted: (u32, u32, u32)) {
+    let told = (found.seconds(), found.fraction(), found.wire_len());
+    same(rt, told, wanted);
+    same(rt, found.frame(), FRAME);
+}
+
 // Checks that the file has one record, and which.
 fn has_record<R: Abort>(rt: &R, alloc: Global, (parts, unit, wanted): Row) {
     let bytes = joined(alloc, parts).expect(rt, "memory");
@@ -97,9 +104,7 @@ fn has_record<R: Abort>(rt: &R, alloc: Global, (parts, unit, wanted): Row) {
     let told = (capture.unit(), capture.records().len());
     same(rt, (parts, told), (parts, (unit, 1)));
     for found in capture.records() {
-        let told = (found.seconds(), found.fraction(), found.wire_len());
-        same(rt, (parts, told), (parts, wanted));
-        same(rt, found.frame(), FRAME);
+        is_record(rt, found, wanted);
     }
 }
 
