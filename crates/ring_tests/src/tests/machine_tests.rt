@@ -1,10 +1,11 @@
-//! Rows of machines and queues: which can be made, what each move prints, and the owners of places after it.
+//! Rows of machines and queues: which can be made, how many moves of a list are made, and the owners of places after each.
+//! `checks/runs` has what moves print.
 
 use crate::tests::wanted::{holds, same};
 use ring_machine::{
     Completion, MachineError, Move, Owner, QueueNumber, Queues, RxMachine, RxStep, TxMachine,
 };
-use std::alloc::{AllocError, Global};
+use std::alloc::Global;
 use std::process::Abort;
 
 // The refusal, if there is one.
@@ -51,123 +52,6 @@ fn other_lengths_are_refused(rt: HostRuntime) {
     for n in UNLAWFUL {
         are_refused(&rt, rt.alloc(), *n, true, Some(MachineError::RingLength));
     }
-}
-
-// Checks that these pairs of queues are refused so, or made.
-fn are_pairs<R: Abort>(
-    rt: &R,
-    alloc: Global,
-    (pairs, n): (usize, usize),
-    enabled: bool,
-    wanted: Option<MachineError>,
-) {
-    let told = refusal(Queues::new(alloc, pairs, n, enabled));
-    same(rt, (pairs, n, told), (pairs, n, wanted));
-}
-
-#[test]
-fn one_to_eight_pairs_are_made(rt: HostRuntime) {
-    for pairs in 1..=8 {
-        are_pairs(&rt, rt.alloc(), (pairs, 8), false, None);
-    }
-}
-
-// Unlawful numbers of pairs and places.
-const NO_QUEUES: &[(usize, usize)] = &[(0, 8), (9, 8), (1, 12), (8, 12)];
-
-#[test]
-fn other_pairs_are_refused(rt: HostRuntime) {
-    for pairs in NO_QUEUES {
-        are_pairs(
-            &rt,
-            rt.alloc(),
-            *pairs,
-            true,
-            Some(MachineError::RingLength),
-        );
-    }
-}
-
-// Makes the move of the line. Returns its name with its note or refusal, as printed.
-fn printed(alloc: Global, queues: &mut Queues, line: &str) -> Result<String, AllocError> {
-    let Ok(action) = Move::parse(line.as_bytes()) else {
-        return String::from_str(alloc, "no move");
-    };
-    let name = action.name();
-    match queues.step(action) {
-        Ok(note) => Ok(format!(in alloc; "{name} {note}")?),
-        Err(refused) => Ok(format!(in alloc; "{name} {refused}")?),
-    }
-}
-
-// A line, and the output of its move.
-type Row = (&'static str, &'static str);
-
-// Checks the output of the line's move.
-fn prints<R: Abort>(rt: &R, alloc: Global, queues: &mut Queues, (line, wanted): Row) {
-    let told = printed(alloc, queues, line).expect(rt, "memory");
-    same(rt, (line, told.as_str()), (line, wanted));
-}
-
-// Checks the output of each line on one enabled pair of queues of 8 with this completion.
-fn each_prints<R: Abort>(rt: &R, alloc: Global, completion: Completion, rows: &[Row]) {
-    let mut queues = Queues::new_with(alloc, 1, 8, true, completion).expect(rt, "queues");
-    for row in rows {
-        prints(rt, alloc, &mut queues, *row);
-    }
-}
-
-const RECEIVED: &[Row] = &[
-    ("r0 A6", "r0 A6 not enabled"),
-    ("r0 A1 5", "r0 A1 place 0"),
-    ("r0 A2", "r0 A2 tail 1"),
-    ("r0 A3", "r0 A3 free 1"),
-    ("r0 A4", "r0 A4 place 0 buffer 5"),
-    ("r0 A6", "r0 A6 none"),
-    ("r0 A5 60 1", "r0 A5 place 0"),
-    ("r0 A6", "r0 A6 buffer 5 length 60 eop 1"),
-    ("r0 A7", "r0 A7 head 1"),
-    ("r1 A2", "r1 A2 not enabled"),
-    ("t1 B2", "t1 B2 not enabled"),
-    ("r0 C8", "r0 C8 quiet 0"),
-    ("r0 C5", "r0 C5 control 3"),
-    ("r0 A1 6", "r0 A1 not enabled"),
-];
-
-#[test]
-fn receive_moves_print_their_notes(rt: HostRuntime) {
-    each_prints(&rt, rt.alloc(), Completion::Status, RECEIVED)
-}
-
-// The rows of a transmission, with this output for the report.
-macro_rules! transmitted {
-    ($reported:expr) => {
-        [
-            ("t0 B1 1 60 1 0 60", "t0 B1 place 0"),
-            ("t0 B1 2 60 1 1 60", "t0 B1 place 1"),
-            ("t0 B2", "t0 B2 tail 2"),
-            ("t0 B3", "t0 B3 ready 2"),
-            ("t0 B4", "t0 B4 place 0 buffer 1 length 60 eop 1 rs 0"),
-            ("t0 B5", "t0 B5 head 1"),
-            ("t0 B4", "t0 B4 place 1 buffer 2 length 60 eop 1 rs 1"),
-            ("t0 B5", "t0 B5 head 2"),
-            ("t0 B6", $reported),
-            ("t0 B7", "t0 B7 reported 1"),
-            ("t0 B8", "t0 B8 buffer 1"),
-            ("t0 B8", "t0 B8 buffer 2"),
-            ("t0 B8", "t0 B8 not enabled"),
-        ]
-    };
-}
-
-const BY_STATUS: &[Row] = &transmitted!("t0 B6 place 1");
-
-const BY_HEAD: &[Row] = &transmitted!("t0 B6 head 2");
-
-#[test]
-fn transmit_moves_print_their_notes(rt: HostRuntime) {
-    each_prints(&rt, rt.alloc(), Completion::Status, BY_STATUS);
-    each_prints(&rt, rt.alloc(), Completion::Head, BY_HEAD)
 }
 
 // Checks how many of these moves a pair of queues makes, and that it makes none of none.
