@@ -1,5 +1,4 @@
-//! The program `forward_bench`: the cost of forwarding a frame, the latency of a frame, and a soak test, which compares the
-//! frames that leave with those that come in.
+//! The program `forward_bench`: the cost of forwarding a frame, and the latency of a frame.
 //! Depends on `forwarder`, the crates below it, and `anyhow`.
 //! Guarantees what a measurement needs to run a flow, and nothing else.
 //!
@@ -14,7 +13,6 @@ mod hot_flow;
 mod latency;
 mod pace;
 mod sides;
-mod soak;
 mod workload;
 
 use anyhow::{Result, ensure};
@@ -23,7 +21,6 @@ use forwarder::{Config, Report, forward};
 use forwarding::Open;
 use hot::run_hot;
 use latency::print_latency;
-use soak::{Soak, run_soak};
 use std::alloc::Global;
 use std::env;
 use std::process::ExitCode;
@@ -37,7 +34,6 @@ use workload::Workload;
 const USAGE: &str =
     "Usage: forward_bench --ring N --frames N --size N --batch N --flows N --workers N --keep N
        forward_bench --latency N --ring N --size N --batch N
-       forward_bench --soak N --part N
 
 Forwards frames and prints the cost of a frame.
 
@@ -45,9 +41,6 @@ With --latency, forwards frames over one flow with one worker on each side, firs
 at 10, 50, 90 and 100 % of it. Prints a line for each of these four rates: the frames per second, and the
 median, the 99th percentile and the maximum of the latency in nanoseconds. The latency of a frame is the time
 from its first offer until it is on the wire.
-
-With --soak, forwards frames over 4 flows with 2 workers on each side, part by part, and compares the frames
-that leave with those that come in. Prints a line for each part, and finally how many parts were right.
 
   --ring     descriptors of each ring, a power of two from 8 to 4096
   --frames   number of frames of all flows together, 1 to 1000000
@@ -57,13 +50,10 @@ that leave with those that come in. Prints a line for each part, and finally how
   --workers  worker threads on each side, 1 to the number of flows; with one flow 1 or 2
   --keep     1: the frames of a script, wires are kept; 0: 256 frames again and again, wires are dropped
   --latency  number of frames at each rate, 1 to 1000000
-  --soak     the least number of frames to forward, from 1
-  --part     frames of each part, 1 to 1000000
 
 Examples:
   forward_bench --ring 512 --frames 200000 --size 60 --batch 32 --flows 2 --workers 1 --keep 1
-  forward_bench --latency 200000 --ring 512 --size 60 --batch 32
-  forward_bench --soak 20000000 --part 500000";
+  forward_bench --latency 200000 --ring 512 --size 60 --batch 32";
 
 /// Whether all frames of a flow were sent.
 fn is_whole(flow: &FlowReport, count: u64) -> bool {
@@ -134,10 +124,6 @@ fn main(rt: HostRuntime) -> Result<ExitCode> {
         print_latency(&rt, rt.alloc(), rt, &workload)?;
         return Ok(ExitCode::SUCCESS);
     }
-    let Some(soak) = Soak::of(words.as_slice()) else {
-        eprintln!(rt; "{USAGE}")?;
-        return Ok(ExitCode::from(2));
-    };
-    let right = run_soak(&rt, rt.alloc(), soak)?;
-    Ok(ExitCode::from(u8::from(!right)))
+    eprintln!(rt; "{USAGE}")?;
+    Ok(ExitCode::from(2))
 }

@@ -120,7 +120,7 @@ impl Workload {
 }
 
 /// The number after an option.
-pub fn number_of(words: &[String], name: &str) -> Option<u32> {
+fn number_of(words: &[String], name: &str) -> Option<u32> {
     let at = words.iter().position(|word| word.as_str() == name)?;
     words.get(at + 1)?.as_str().parse().ok()
 }
